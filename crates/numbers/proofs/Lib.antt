@@ -1,0 +1,5 @@
+pub mod Decimals
+pub mod Overlay
+pub mod Finite
+pub mod Signs
+pub mod Unique

@@ -1,0 +1,75 @@
+-- The words in which every formula of the library is written: Rust's operators on f64, and the numbers that the formulas name.
+-- A number is an IEEE 754 binary64 value with one NaN, so two equal numbers are the same bit for bit, any NaN matching any NaN.
+use mathlib.Core.Bool.{Bool, true, false}
+use lib.Ieee.{Float, nan, inf, fin, binary64, add, sub, mul, div, ofBits}
+
+-- one rounding each
+abbrev pub _⊕_ : Float → Float → Float
+x ⊕ y = add binary64 x y
+
+abbrev pub _⊖_ : Float → Float → Float
+x ⊖ y = sub binary64 x y
+
+abbrev pub _⊗_ : Float → Float → Float
+x ⊗ y = mul binary64 x y
+
+abbrev pub _⊘_ : Float → Float → Float
+x ⊘ y = div binary64 x y
+
+infixl 65 _⊕_
+infixl 65 _⊖_
+infixl 70 _⊗_
+infixl 70 _⊘_
+-- The numbers, as the compiler reads their decimals. `proofs/Decimals.antt` shows what each is worth.
+abbrev pub nought : Float
+nought = ofBits binary64 0x0000_0000_0000_0000
+
+abbrev pub half : Float
+half = ofBits binary64 0x3fe0_0000_0000_0000
+
+abbrev pub one : Float
+one = ofBits binary64 0x3ff0_0000_0000_0000
+
+abbrev pub threeHalves : Float
+threeHalves = ofBits binary64 0x3ff8_0000_0000_0000
+
+abbrev pub two : Float
+two = ofBits binary64 0x4000_0000_0000_0000
+
+abbrev pub three : Float
+three = ofBits binary64 0x4008_0000_0000_0000
+
+abbrev pub four : Float
+four = ofBits binary64 0x4010_0000_0000_0000
+
+abbrev pub six : Float
+six = ofBits binary64 0x4018_0000_0000_0000
+
+abbrev pub twentyFour : Float
+twentyFour = ofBits binary64 0x4038_0000_0000_0000
+
+abbrev pub thirtySix : Float
+thirtySix = ofBits binary64 0x4042_0000_0000_0000
+
+-- 1.0e-14
+abbrev pub tiny : Float
+tiny = ofBits binary64 0x3d06_849b_86a1_2b9b
+
+-- 0.3 and 0.7, the defaults of the method
+abbrev pub threeTenths : Float
+threeTenths = ofBits binary64 0x3fd3_3333_3333_3333
+
+abbrev pub sevenTenths : Float
+sevenTenths = ofBits binary64 0x3fe6_6666_6666_6666
+
+-- neither a NaN nor an infinity
+unfoldable pub finite : Float → Bool
+finite nan = false
+finite (inf s) = false
+finite (fin s m e) = true
+
+-- the number without its sign
+unfoldable pub abs : Float → Float
+abs nan = nan
+abs (inf s) = inf false
+abs (fin s m e) = fin false m e
