@@ -1,0 +1,92 @@
+-- The root of each kind of number, by the tests that the code makes.
+use Prim.Native.Nat.{ℕ, zero, suc, _+_, _*_, _^_, _<_}
+use native.Mathlib.Omega.{arith}
+use mathlib.Core.Bool.{Bool, true, false, not}
+use mathlib.Core.Path.{_≡_, refl, sym, ap, subst, _∙_}
+use lib.IntN.{ℤ}
+use lib.Dec.{T}
+use lib.Ieee.{Float, nan, inf, fin, binary64, lt, eq, ne, div, fits, isNan, toBits, ofBits, nanBits}
+use lib.Ieee.Compare.{differs-from-itself}
+use denote.Floats.{passes}
+use Rattle.numbers.specs.Words.{nought, finite}
+use Rattle.numbers.proofs.Signs.{never, zero-is-zero, nonzero-is-not, minus-is-below, plus-is-not-below}
+use Rattle.root.specs.Root.{root, inUnits}
+use Rattle.root.specs.Bits.{rootBits, unitsOfBits}
+use Rattle.root.proofs.Units.{Fit, fit, Parts, parts-of, units-high, k-high, bits-are, units-of-bits}
+use Rattle.root.proofs.Result.{result, result-number}
+
+pub root-nan : (a : Float) → ne a a ≡ true → a ≡ root a
+unfolding root
+root-nan a h = let e : a ≡ nan = differs-from-itself a (passes (ne a a) h) in e ∙ ap root (sym e)
+
+pub root-zero : (a : Float) → eq a nought ≡ true → a ≡ root a
+unfolding root eq ofBits
+root-zero nan h = refl
+root-zero (inf true) h = cc
+root-zero (inf false) h = refl
+root-zero (fin s zero e) h = refl
+root-zero (fin s (suc m) e) h = cc (nonzero-is-not s m e)
+
+pub root-below : (a : Float) → eq a nought ≡ false → lt a nought ≡ true → div binary64 nought nought ≡ root a
+unfolding root lt div ofBits
+root-below nan k h = refl
+root-below (inf true) k h = refl
+root-below (inf false) k h = cc
+root-below (fin s zero e) k h = cc (zero-is-zero s e)
+root-below (fin true (suc m) e) k h = refl
+root-below (fin false (suc m) e) k h = never h (plus-is-not-below (suc m) e)
+
+pub root-infinite : (a : Float) → lt a nought ≡ false → finite a ≡ false → a ≡ root a
+unfolding root lt finite ofBits
+root-infinite nan k h = refl
+root-infinite (inf true) k h = cc
+root-infinite (inf false) k h = refl
+root-infinite (fin s m e) k h = cc
+
+-- a positive finite number
+abbrev pub Positive : Float → Type 0
+Positive a = (m : ℕ) × (e : ℤ) × (fin false (suc m) e ≡ a)
+
+pub is-positive : (a : Float) → eq a nought ≡ false → lt a nought ≡ false → finite a ≡ true → Positive a
+unfolding finite
+is-positive nan z k h = never h refl
+is-positive (inf s) z k h = never h refl
+is-positive (fin s zero e) z k h = never (zero-is-zero s e) z
+is-positive (fin true (suc m) e) z k h = never (minus-is-below m e) k
+is-positive (fin false (suc m) e) z k h = (m, e, refl)
+
+-- what the code does with the bits of a positive finite number
+module _ (a : Float) (p : Positive a) (h : T (fits binary64 a)) where
+  abbrev m : ℕ
+  m = p .0
+
+  abbrev e : ℤ
+  e = p .1
+
+  here : Fit (suc m) e
+  here = fit false m e (subst (λ (x : Float). T (fits binary64 x)) (sym (p .2)) h)
+
+  abbrev n : ℕ
+  n = inUnits (suc m) e
+
+  bits-here : toBits binary64 a ≡ parts-of m e here .k * 2 ^ 52 + parts-of m e here .q
+  bits-here = ap (toBits binary64) (sym (p .2)) ∙ bits-are m e here
+
+  pub bits-range : (0 < toBits binary64 a) × (toBits binary64 a < 2047 * 2 ^ 52)
+  bits-range = let t = parts-of m e here in omega (arith, bits-here, k-high m e here)
+
+  units-here : unitsOfBits (toBits binary64 a) ≡ n
+  units-here = ap unitsOfBits bits-here ∙ units-of-bits n (parts-of m e here)
+
+  pub root-positive : ofBits binary64 (rootBits (unitsOfBits (toBits binary64 a))) ≡ root a
+  unfolding root
+  root-positive = ap (λ (x : ℕ). ofBits binary64 (rootBits x)) units-here ∙ result n (parts-of m e here) (units-high m e here) ∙ ap root (p .2)
+
+  pub root-number : nanBits binary64 (rootBits (unitsOfBits (toBits binary64 a))) ≡ false
+  root-number = ap (λ (x : ℕ). nanBits binary64 (rootBits x)) units-here ∙ result-number n (parts-of m e here) (units-high m e here)
+
+pub number-is : (a : Float) → finite a ≡ true → T (not (isNan a))
+unfolding finite isNan
+number-is nan h = never h refl
+number-is (inf s) h = tt
+number-is (fin s m e) h = tt
