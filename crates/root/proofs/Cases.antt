@@ -6,18 +6,12 @@ use mathlib.Core.Path.{_≡_, refl, sym, ap, subst, _∙_}
 use lib.IntN.{ℤ}
 use lib.Dec.{T}
 use lib.Ieee.{Float, nan, inf, fin, binary64, lt, eq, ne, div, fits, isNan, toBits, ofBits, nanBits}
-use lib.Ieee.Compare.{differs-from-itself}
-use denote.Floats.{passes}
 use Rattle.numbers.specs.Words.{nought, finite}
 use Rattle.numbers.proofs.Signs.{never, zero-is-zero, nonzero-is-not, minus-is-below, plus-is-not-below}
 use Rattle.root.specs.Root.{root, inUnits}
 use Rattle.root.specs.Bits.{rootBits, unitsOfBits}
 use Rattle.root.proofs.Units.{Fit, fit, Parts, parts-of, units-high, k-high, bits-are, units-of-bits}
 use Rattle.root.proofs.Result.{result, result-number}
-
-pub root-nan : (a : Float) → ne a a ≡ true → a ≡ root a
-unfolding root
-root-nan a h = let e : a ≡ nan = differs-from-itself a (passes (ne a a) h) in e ∙ ap root (sym e)
 
 pub root-zero : (a : Float) → eq a nought ≡ true → a ≡ root a
 unfolding root eq ofBits
@@ -36,12 +30,12 @@ root-below (fin s zero e) k h = cc (zero-is-zero s e)
 root-below (fin true (suc m) e) k h = refl
 root-below (fin false (suc m) e) k h = never h (plus-is-not-below (suc m) e)
 
-pub root-infinite : (a : Float) → lt a nought ≡ false → finite a ≡ false → a ≡ root a
+pub root-not-finite : (a : Float) → lt a nought ≡ false → finite a ≡ false → a ≡ root a
 unfolding root lt finite ofBits
-root-infinite nan k h = refl
-root-infinite (inf true) k h = cc
-root-infinite (inf false) k h = refl
-root-infinite (fin s m e) k h = cc
+root-not-finite nan k h = refl
+root-not-finite (inf true) k h = cc
+root-not-finite (inf false) k h = refl
+root-not-finite (fin s m e) k h = cc
 
 -- a positive finite number
 abbrev pub Positive : Float → Type 0

@@ -4,4 +4,8 @@ pub mod Scaling
 pub mod Units
 pub mod Result
 pub mod Cases
+pub mod Gaps
+pub mod Sides
+pub mod Rounded
+pub mod Unique
 pub mod Figures

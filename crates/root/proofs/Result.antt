@@ -17,7 +17,7 @@ use Rattle.root.specs.Bits.{rootBits}
 use Rattle.root.proofs.Isqrt.{Near, nearest-near, digits-low, digits-high}
 use Rattle.root.proofs.Units.{Parts}
 use Rattle.root.proofs.Powers.{lt-or-le}
-use Rattle.root.proofs.Scaling.{placed, scaled-range}
+use Rattle.root.proofs.Scaling.{placed, scaled-range, scaled-exact}
 
 -- the same power on both sides of a fraction
 minus-shift : (a b c : ℕ) → minus (a + c) (b + c) ≡ minus a b
@@ -61,6 +61,9 @@ module _ (n : ℕ) (t : Parts n) (high : n < 2 ^ 2098) where
   -- document 01's M, in its range
   pub M-range : (2 ^ 104 ≤ scaled n) × (scaled n + 2 ^ 53 ≤ 2 ^ 106)
   M-range = subst (λ (x : ℕ). (2 ^ 104 ≤ scaled x) × (scaled x + 2 ^ 53 ≤ 2 ^ 106)) (t .whole) (scaled-range (t .q) (t .k) _ (placed (t .q) (t .q-pos) (t .q-small)))
+
+  pub M-exact : n * 4 ^ 53 ≡ scaled n * 4 ^ pairs n
+  M-exact = subst (λ (x : ℕ). x * 4 ^ 53 ≡ scaled x * 4 ^ pairs x) (t .whole) (scaled-exact (t .q) (t .k) _ (placed (t .q) (t .q-pos) (t .q-small)))
 
   -- and R, of 53 digits
   pub R-near : Near (nearestRoot (scaled n)) (scaled n)

@@ -36,35 +36,47 @@ module _ (q k zeros : ℕ) (t : Placed q zeros) where
   pairs-are = ap (λ (n : ℕ). n / 2) digits-are
 
   -- how far the code shifts q
-  abbrev pub shift : ℕ
+  abbrev shift : ℕ
   shift = zeros - 11 + (k + 65 - zeros) % 2
 
-  pub shifted-lt : q * 2 ^ shift < 2 ^ 54
+  shifted-lt : q * 2 ^ shift < 2 ^ 54
   shifted-lt = lt-pow (q * 2 ^ shift) (suc (t .j) + shift) 54 (shl-lt (suc (t .j)) shift (t .high)) (omega arith)
 
-  pub shifted-ge : 2 ^ 52 ≤ q * 2 ^ shift
+  shifted-ge : 2 ^ 52 ≤ q * 2 ^ shift
   shifted-ge =
       let e : 2 ^ (t .j + shift) ≤ q * 2 ^ shift = rw (pow-add 2 (t .j) shift) (mul-le-mul-right (2 ^ shift) (t .low)) in
       let m : 52 ≤ t .j + shift = omega arith in
       le-trans (pow-mono m) e
 
-  -- what the code hands on is document 01's M, less the 52 zeros that follow
-  pub scaled-is : q * 2 ^ shift * 2 ^ 52 ≡ scaled (q * 2 ^ k)
-  unfolding scaled
-  scaled-is =
+  -- what the code hands on, with 52 zeros behind it, is document 01's M: with the powers of four it is the whole of q * 2 ^ k
+  exact : q * 2 ^ k * 4 ^ 53 ≡ q * 2 ^ shift * 2 ^ 52 * 4 ^ pairs (q * 2 ^ k)
+  exact =
       let p = pairs (q * 2 ^ k) in
       let e : k + 106 ≡ shift + 52 + (p + p) = omega (arith, pairs-are) in
-      let m : q * 2 ^ k * 2 ^ 106 ≡ q * 2 ^ shift * 2 ^ 52 * 4 ^ p =
       mul-assoc q (2 ^ k) (2 ^ 106)
       ∙ ap (λ (n : ℕ). q * n) (sym (pow-add 2 k 106) ∙ ap (λ (n : ℕ). 2 ^ n) e ∙ pow-add 2 (shift + 52) (p + p) ∙ ap (λ (n : ℕ). n * 2 ^ (p + p)) (pow-add 2 shift 52))
       ∙ sym (mul-assoc q (2 ^ shift * 2 ^ 52) (2 ^ (p + p)))
       ∙ ap (λ (n : ℕ). n * 2 ^ (p + p)) (sym (mul-assoc q (2 ^ shift) (2 ^ 52)))
-      ∙ ap (λ (n : ℕ). q * 2 ^ shift * 2 ^ 52 * n) (sym (four-pow p)) in
-      sym (ap (λ (n : ℕ). n / 4 ^ p) m ∙ mul-div-cancel (q * 2 ^ shift * 2 ^ 52) (rw (four-pow p) (pow-pos (p + p))))
+      ∙ ap (λ (n : ℕ). q * 2 ^ shift * 2 ^ 52 * n) (sym (four-pow p))
 
-  -- the shift loses nothing
-  pub shifted-whole : q * 2 ^ shift % 2 ^ 64 ≡ q * 2 ^ shift
-  shifted-whole = mod-eq-of-lt (lt-pow (q * 2 ^ shift) 54 64 shifted-lt (omega arith))
+  scaled-is : q * 2 ^ shift * 2 ^ 52 ≡ scaled (q * 2 ^ k)
+  unfolding scaled
+  scaled-is =
+      let p = pairs (q * 2 ^ k) in
+      sym (ap (λ (n : ℕ). n / 4 ^ p) exact ∙ mul-div-cancel (q * 2 ^ shift * 2 ^ 52) (rw (four-pow p) (pow-pos (p + p))))
+
+  pub scaled-exact : q * 2 ^ k * 4 ^ 53 ≡ scaled (q * 2 ^ k) * 4 ^ pairs (q * 2 ^ k)
+  scaled-exact = exact ∙ ap (λ (n : ℕ). n * 4 ^ pairs (q * 2 ^ k)) scaled-is
+
+  -- A shift by z, which is that far, loses nothing. The code's own z stands in the goals that cite these.
+  shifted-whole : (z : ℕ) → z ≡ shift → q * 2 ^ z % 2 ^ 64 ≡ q * 2 ^ shift
+  shifted-whole z e = ap (λ (y : ℕ). q * 2 ^ y % 2 ^ 64) e ∙ mod-eq-of-lt (lt-pow (q * 2 ^ shift) 54 64 shifted-lt (omega arith))
+
+  pub handed-lt : (z : ℕ) → z ≡ shift → q * 2 ^ z % 2 ^ 64 < 2 ^ 54
+  handed-lt z e = rw (shifted-whole z e) shifted-lt
+
+  pub handed-is : (z : ℕ) → z ≡ shift → q * 2 ^ z % 2 ^ 64 * 2 ^ 52 ≡ scaled (q * 2 ^ k)
+  handed-is z e = ap (λ (y : ℕ). y * 2 ^ 52) (shifted-whole z e) ∙ scaled-is
 
   -- M lies in its range, and is no nearer to 2 ^ 106 than a number of 53 significant digits can be
   shifted-below : q * 2 ^ shift + 2 ≤ 2 ^ 54

@@ -55,13 +55,10 @@ fn positive(bits: u64) -> u64
     root_of(bits - k * 0x10_0000_0000_0000, k)
 }
 
-// The square root of a, rounded to the nearest; a zero is its own root, and there is none of a NaN or of a number below zero.
+// The square root of a, rounded to the nearest. A zero, +infinity and a NaN are their own roots, and a number below zero has none.
 pub fn sqrt(a: f64) -> f64
     ensures { λ r. ⌜ r ≡ root a ⌝ }
 {
-    if a != a {
-        return a;
-    }
     if a == 0.0 {
         return a;
     }

@@ -7,7 +7,7 @@ use lib.Count.{leadingZeros}
 use Rattle.root.specs.Root.{nearestRoot, scaled}
 use Rattle.root.specs.Bits.{rootBits}
 use Rattle.root.proofs.Isqrt.{nearest-small}
-use Rattle.root.proofs.Scaling.{Placed, placed, pairs-are, shifted-lt, shifted-whole, scaled-is, scaled-range}
+use Rattle.root.proofs.Scaling.{Placed, placed, pairs-are, handed-lt, handed-is, scaled-range}
 use Rattle.root.proofs.root_of.Statement.{statement}
 use Rattle.root.proofs.root_of.Tie as tie
 use Rattle.root.proofs.root_of.Reads as reads
@@ -42,15 +42,11 @@ mul-result : tie.Need-mul-result
 mul-result c = search needs
 
 nearest-root-requires : tie.Need-nearest-root-requires
-nearest-root-requires c κs = rw (shifted-whole (c .args .q) (c .args .k) _ (here c)) (shifted-lt (c .args .q) (c .args .k) _ (here c))
+nearest-root-requires c κs = handed-lt (c .args .q) (c .args .k) _ (here c) _ (omega arith)
 
 -- the call's answer, over q and k
 found : (c : tie.After-nearest-root) → c .nearest-root .result ≡ nearestRoot (scaled (c .before .args .q * 2 ^ c .before .args .k))
-found c =
-    let a = c .before .args in
-    c .nearest-root .ensures
-    ∙ ap (λ (n : ℕ). nearestRoot (n * 2 ^ 52)) (shifted-whole (a .q) (a .k) _ (here (c .before)))
-    ∙ ap nearestRoot (scaled-is (a .q) (a .k) _ (here (c .before)))
+found c = c .nearest-root .ensures ∙ ap nearestRoot (handed-is (c .before .args .q) (c .before .args .k) _ (here (c .before)) _ (omega arith))
 
 add-result-2 : tie.Need-add-result-2
 add-result-2 c =
