@@ -1,0 +1,26 @@
+//! The file of answers that another program replays. It is the same on every
+//! machine: the generator is seeded and takes exact steps only.
+
+mod queries;
+pub mod rng;
+mod roots;
+mod sections;
+
+/// Lines to be replayed, and what they hold.
+pub struct Answers {
+    pub lines: String,
+    /// What was written and how many, in the order written.
+    pub counts: Vec<(String, usize)>,
+}
+
+/// The roots: lines `r`.
+pub fn roots() -> Answers {
+    roots::write()
+}
+
+/// The sections: lines `s`, `t` and `x`.
+///
+/// Panics if a kind, split or not, could not be made to occur.
+pub fn sections() -> Answers {
+    sections::write()
+}
