@@ -3,3 +3,4 @@ pub mod Overlay
 pub mod Finite
 pub mod Signs
 pub mod Unique
+pub mod Nan

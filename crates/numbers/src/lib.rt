@@ -1,5 +1,6 @@
-// Float words that every layer needs: a test for finiteness and the absolute value, by operations on floats alone.
+// Float words that every layer needs: a test for finiteness, the absolute value, and the way from a float to its bits and back.
 ghost use mathlib.Core.Path.{_≡_};
+ghost use lib.Ieee.{binary64, ofBits, toBits};
 ghost use Rattle.numbers.specs.Words.{finite, abs};
 
 // Whether x is neither a NaN nor an infinity. No bit pattern is looked at, so a loop of these stays plain float code.
@@ -20,4 +21,24 @@ pub fn abs(x: f64) -> f64
         return 0.0;
     }
     x
+}
+
+// The number with these bits; every NaN's pattern is the NaN.
+pub fn of_bits(bits: u64) -> f64
+    ensures { λ r. ⌜ r ≡ ofBits binary64 bits ⌝ }
+{
+    if 0x7ff0_0000_0000_0000 < bits % 0x8000_0000_0000_0000 {
+        return 0.0 / 0.0;
+    }
+    f64::from_bits(bits)
+}
+
+// The bits of x; a NaN's are 7ff8000000000000, whatever pattern the machine holds.
+pub fn to_bits(x: f64) -> u64
+    ensures { λ r. ⌜ r ≡ toBits binary64 x ⌝ }
+{
+    if x != x {
+        return 0x7ff8_0000_0000_0000;
+    }
+    f64::to_bits(x)
 }
