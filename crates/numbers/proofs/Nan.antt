@@ -6,7 +6,7 @@ use lib.Dec.{T}
 use borrow.Author.Tests.{lt-ltb, le-ltb}
 use lib.Ieee.{Float, nan, inf, fin, binary64, ne, eq, isNan, nanBits, ofBits}
 use lib.Ieee.Bits.{nanBits-is, nanBits-above}
-use Rattle.numbers.proofs.Signs.{never}
+use Rattle.numbers.proofs.Ways.{never}
 
 -- a pattern above that of infinity, its sign aside
 pub pattern-nan : (b : ℕ) → 2047 * 2 ^ 52 < b % 2 ^ 63 → nanBits binary64 b ≡ true

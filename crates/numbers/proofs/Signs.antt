@@ -3,7 +3,7 @@ use Prim.Native.Nat.{ℕ, zero, suc, _+_, _*_, _^_, _<_}
 use native.Mathlib.Nat.{mul-one, one-mul, zero-mul, zero-lt-suc, mul-pos, pow-suc}
 use native.Mathlib.Omega.{arith}
 use mathlib.Core.Bool.{Bool, true, false, not, _&&_, _||_, Bool·beq}
-use mathlib.Core.Path.{_≡_, refl, sym, ap, subst, _∙_}
+use mathlib.Core.Path.{_≡_, refl, sym, ap, _∙_}
 use lib.IntN.{ℤ, pos, negsuc}
 use lib.Dec.{T, ltb, eqb, eqb→eq}
 use lib.Pow.{pow-pos}
@@ -11,10 +11,6 @@ use borrow.Author.Tests.{eq-eqb, ne-eqb, lt-ltb, le-ltb}
 use lib.Ieee.{Float, nan, inf, fin, binary64, lt, eq, neg, up, down, ofBits, fits}
 use lib.Ieee.Fits.{up-pos}
 use Rattle.numbers.specs.Words.{nought, abs}
-
--- a test has one outcome
-pub never : {A : Type 0} {b : Bool} → b ≡ true → b ≡ false → A
-never p q = absurd (subst T (sym p ∙ q) tt)
 
 -- a number that fits and is zero has the exponent 0
 pub zero-exponent : (e : ℤ) → T (eqb (up e * down e) 1) → e ≡ pos 0

@@ -7,7 +7,8 @@ use lib.IntN.{ℤ}
 use lib.Dec.{T}
 use lib.Ieee.{Float, nan, inf, fin, binary64, lt, eq, ne, div, fits, isNan, toBits, ofBits, nanBits}
 use Rattle.numbers.specs.Words.{nought, finite}
-use Rattle.numbers.proofs.Signs.{never, zero-is-zero, nonzero-is-not, minus-is-below, plus-is-not-below}
+use Rattle.numbers.proofs.Ways.{never}
+use Rattle.numbers.proofs.Signs.{zero-is-zero, nonzero-is-not, minus-is-below, plus-is-not-below}
 use Rattle.root.specs.Root.{root, inUnits}
 use Rattle.root.specs.Bits.{rootBits, unitsOfBits}
 use Rattle.root.proofs.Units.{Fit, fit, Parts, parts-of, units-high, k-high, bits-are, units-of-bits}

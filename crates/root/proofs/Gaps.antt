@@ -5,7 +5,7 @@ use native.Mathlib.Nat.{mul-assoc, mul-le-mul-right, mul-lt-mul-of-pos-right, lt
 use mathlib.Core.Logic.{⊎-elim}
 use mathlib.Core.Path.{_≡_, sym, ap, subst, _∙_}
 use lib.Pow.{pow-pos, pow-add, pow-mono}
-use Rattle.root.proofs.Powers.{lt-or-le}
+use Rattle.numbers.proofs.Ways.{lt-or-le}
 
 module _ (m j c : ℕ) (small : m < 2 ^ 53) where
   -- with an exponent from c on it is a multiple of 2 ^ c; below, it is under 2 ^ 52 * 2 ^ c

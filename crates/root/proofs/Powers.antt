@@ -3,11 +3,7 @@ use Prim.Native.Nat.{ℕ, zero, suc, _+_, _*_, _^_, _≤_, _<_}
 use native.Mathlib.Omega.{arith}
 use native.Mathlib.Nat.{add-suc, suc-add, pow-suc, lt-of-lt-of-le, le-antisymm, lt-of-not-le, not-le-of-lt, le-of-suc-le-suc}
 use native.Mathlib.Numerals.{add-one}
-use mathlib.Core.Bool.{Bool, true, false}
-use mathlib.Core.Logic.{_⊎_, inl, inr}
 use mathlib.Core.Path.{_≡_, refl, ap, _∙_}
-use lib.Dec.{ltb}
-use borrow.Author.Tests.{ltb-true, ltb-false}
 use lib.Pow.{pow-mono, pow-lt}
 use lib.Ieee.{size}
 use lib.Ieee.Digits.{size-lt, size-le}
@@ -32,10 +28,3 @@ size-is n j a b = le-antisymm (size-le n (suc j) b) (lt-of-not-le (λ (g : size 
 pub four-pow : (n : ℕ) → 4 ^ n ≡ 2 ^ (n + n)
 four-pow zero = refl
 four-pow (suc n) = rw (suc-add, add-suc, pow-suc 2 (suc (n + n)), pow-suc 2 (n + n), pow-suc 4 n, four-pow n) (omega arith)
-
-pub lt-or-le : (a b : ℕ) → (a < b) ⊎ (b ≤ a)
-lt-or-le a b = by (ltb a b) (ltb-true a b) (ltb-false a b)
-  where
-    by : (t : Bool) → (t ≡ true → a < b) → (t ≡ false → b ≤ a) → (a < b) ⊎ (b ≤ a)
-    by true l g = inl (l refl)
-    by false l g = inr (g refl)

@@ -16,7 +16,7 @@ use Rattle.root.specs.Root.{nearestRoot, scaled, pairs, rootOf}
 use Rattle.root.specs.Bits.{rootBits}
 use Rattle.root.proofs.Isqrt.{Near, nearest-near, digits-low, digits-high}
 use Rattle.root.proofs.Units.{Parts}
-use Rattle.root.proofs.Powers.{lt-or-le}
+use Rattle.numbers.proofs.Ways.{lt-or-le}
 use Rattle.root.proofs.Scaling.{placed, scaled-range, scaled-exact}
 
 -- the same power on both sides of a fraction

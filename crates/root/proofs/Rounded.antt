@@ -12,7 +12,7 @@ use lib.Ieee.{Float, nan, inf, fin, binary64, up, down, size, fits, odd, toBits,
 use lib.Ieee.Bits.{ofBits-toBits, ofBits-fits}
 use lib.Ieee.Exact.{HasValue, odd-sign}
 use lib.Ieee.Fits.{down-pos}
-use Rattle.numbers.proofs.Signs.{never}
+use Rattle.numbers.proofs.Ways.{never}
 use Rattle.root.specs.Root.{root, rootOf, nearestRoot, scaled, pairs, inUnits}
 use Rattle.root.specs.Bits.{rootBits}
 use Rattle.root.specs.Nearest.{AsDocumented, unitsOf, YsSide}

@@ -9,7 +9,7 @@ use mathlib.Core.Path.{_≡_, sym, subst, _∙_}
 use lib.Pow.{pow-pos}
 use Rattle.root.proofs.Isqrt.{Near}
 use Rattle.root.specs.Nearest.{YsSide}
-use Rattle.root.proofs.Powers.{lt-or-le}
+use Rattle.numbers.proofs.Ways.{lt-or-le}
 use Rattle.root.proofs.Gaps.{gap-up, gap-down}
 
 -- squares of multiples

@@ -14,7 +14,8 @@ use lib.Ieee.Digits.{size-le, size-lt, size-reaches}
 use lib.Ieee.Fits.{and-l, and-r, kept-lt, down-pos}
 use Rattle.root.specs.Root.{inUnits}
 use Rattle.root.specs.Bits.{unitsOfBits}
-use Rattle.root.proofs.Powers.{pow-le-back, lt-or-le}
+use Rattle.root.proofs.Powers.{pow-le-back}
+use Rattle.numbers.proofs.Ways.{lt-or-le}
 
 -- an exponent that is not below the smallest: m * 2 ^ e is m * 2 ^ j units, for every m
 pub record Place (e : ℤ) : Type 0 where

@@ -1,0 +1,6 @@
+pub mod Signs
+pub mod Ways
+pub mod Unique
+pub mod Laws
+pub mod Answers
+pub mod Figures

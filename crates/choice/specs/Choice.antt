@@ -1,0 +1,53 @@
+-- 01, Choosing a section.
+use mathlib.Core.Bool.{cond}
+use lib.Ieee.{Float, lt}
+use Rattle.numbers.specs.Words.{_⊖_, nought, one}
+use Rattle.section.specs.declared.quadratic_part.QuadraticPart.{QuadraticPart}
+use Rattle.section.specs.declared.section.Section.{Section}
+use Rattle.section.specs.declared.section.Section.the-variants as section
+use Rattle.section.specs.ConstantGrad as grad
+use Rattle.section.specs.Combination as combination
+use Rattle.table.specs.declared.method.ConvexMonotone.{ConvexMonotone}
+use Rattle.choice.specs.declared.period.Period.{Period}
+use Rattle.choice.specs.Regions.{flat, inFirst}
+use Rattle.section.specs.QuadraticPart as quadratic
+use Rattle.choice.specs.QuadraticPart.{made, quadraticPart}
+use Rattle.section.specs.ConvexMonotonePart as convex
+use Rattle.choice.specs.ConvexPart.{convexPart}
+
+module _ (method : ConvexMonotone) (period : Period) (P N : Float) where
+  open ConvexMonotone method using (quadraticity, «force_positive»)
+
+  -- step 3, the first region: with no quadratic part from step 2 it is made here
+  unfoldable pub firstRegion : QuadraticPart
+  firstRegion = cond (lt nought quadraticity) (quadraticPart method period P N) (made period «force_positive»)
+
+  -- step 4 outside the first region: two parts, or the one
+  unfoldable pub mixed : Section
+  mixed =
+      cond (lt nought quadraticity)
+      (section.Combination (combination.new (quadraticPart method period P N) (convexPart method period P N) quadraticity))
+      (convex.alone (convexPart method period P N))
+
+  -- steps 2 to 4. Every build refuses a quadraticity outside [0, 1], so the original has no answer there to match.
+  unfoldable pub shaped : Section
+  shaped =
+      cond (lt quadraticity one)
+      (cond (inFirst P N) (quadratic.alone firstRegion) mixed)
+      (quadratic.alone (quadraticPart method period P N))
+
+module _ (method : ConvexMonotone) (period : Period) where
+  open Period period using («x_prev», «x_next», «f_prev», «f_next», «f_average», «prev_primitive»)
+
+  abbrev P : Float
+  P = «f_prev» ⊖ «f_average»
+
+  abbrev N : Float
+  N = «f_next» ⊖ «f_average»
+
+  -- step 1, then the others
+  unfoldable pub sectionOf : Section
+  sectionOf =
+      cond (flat P N)
+      (section.ConstantGrad (grad.new «f_prev» «prev_primitive» «x_prev» «x_next» «f_next»))
+      (shaped method period P N)

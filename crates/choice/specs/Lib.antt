@@ -1,0 +1,4 @@
+pub mod Regions
+pub mod QuadraticPart
+pub mod ConvexPart
+pub mod Choice

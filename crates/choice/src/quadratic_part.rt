@@ -1,0 +1,53 @@
+// The quadratic part of a period: the parabola through both nodes that keeps the average.
+use crate::period::Period;
+use crate::regions::min_fits;
+use section::quadratic::Quadratic;
+use section::quadratic_min::QuadraticMin;
+use section::quadratic_part::QuadraticPart;
+use table::method::ConvexMonotone;
+ghost use mathlib.Core.Path.{_≡_};
+ghost use Rattle.choice.specs.QuadraticPart.{made, minKind, quadraticPart};
+
+// Made as the Min kind or as the plain one.
+pub(crate) fn made(period: Period, min: bool) -> QuadraticPart
+    ensures { λ r. ⌜ r ≡ made period min ⌝ }
+{
+    if min {
+        return QuadraticPart::QuadraticMin(QuadraticMin::new(
+            period.x_prev,
+            period.x_next,
+            period.f_prev,
+            period.f_next,
+            period.f_average,
+            period.prev_primitive,
+        ));
+    }
+    QuadraticPart::Quadratic(Quadratic::new(
+        period.x_prev,
+        period.x_next,
+        period.f_prev,
+        period.f_next,
+        period.f_average,
+        period.prev_primitive,
+    ))
+}
+
+fn min_kind(method: ConvexMonotone, g_prev: f64, g_next: f64) -> bool
+    ensures { λ r. ⌜ r ≡ minKind method «g_prev» «g_next» ⌝ }
+{
+    if method.force_positive {
+        return min_fits(g_prev, g_next);
+    }
+    false
+}
+
+pub(crate) fn quadratic_part(
+    method: ConvexMonotone,
+    period: Period,
+    g_prev: f64,
+    g_next: f64,
+) -> QuadraticPart
+    ensures { λ r. ⌜ r ≡ quadraticPart method period «g_prev» «g_next» ⌝ }
+{
+    made(period, min_kind(method, g_prev, g_next))
+}

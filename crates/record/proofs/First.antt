@@ -1,0 +1,39 @@
+-- Laws of `first`, for every check that is told in an order.
+use mathlib.Core.Bool.{Bool, true, false, cond}
+use mathlib.Core.List.{List, [], _∷_, _++_}
+use mathlib.Core.Path.{_≡_, refl, ap}
+use Rattle.numbers.proofs.Ways.{never}
+use Rattle.record.specs.Refusal.{Test, _⇒_, first}
+use Rattle.record.specs.declared.refusal.Refusal.{Refusal}
+use Rattle.record.specs.declared.refusal.Verdict.{Verdict}
+use Rattle.record.specs.declared.refusal.Verdict.the-variants.{Accepted, Refused}
+
+abbrev isAccepted : Verdict → Bool
+isAccepted Accepted = true
+isAccepted (Refused r) = false
+
+-- what is accepted passed every test
+abbrev pub Passed : List Test → Type 0
+Passed [] = Unit {0}
+Passed (t ∷ ts) = (t .holds ≡ false) × Passed ts
+
+head : (b : Bool) (r : Refusal) (v : Verdict) → cond b (Refused r) v ≡ Accepted → (b ≡ false) × (v ≡ Accepted)
+head true r v h = never (ap isAccepted h) refl
+head false r v h = (refl, h)
+
+pub passed : (ts : List Test) → first ts ≡ Accepted → Passed ts
+passed [] h = tt
+passed (t ∷ ts) h = let p = head (t .holds) (t .refusal) (first ts) h in (p .0, passed ts (p .1))
+
+-- one check after another
+abbrev pub andThen : Verdict → Verdict → Verdict
+andThen Accepted v = v
+andThen (Refused r) v = Refused r
+
+cond-then : (b : Bool) (r : Refusal) (v w : Verdict) → cond b (Refused r) (andThen v w) ≡ andThen (cond b (Refused r) v) w
+cond-then true r v w = refl
+cond-then false r v w = refl
+
+pub first-append : (ts us : List Test) → first (ts ++ us) ≡ andThen (first ts) (first us)
+first-append [] us = refl
+first-append (t ∷ ts) us = rw (first-append ts us) (cond-then (t .holds) (t .refusal) (first ts) (first us))

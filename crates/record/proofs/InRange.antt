@@ -1,0 +1,23 @@
+-- What an accepted record number tells.
+use Prim.Native.Nat.{ℕ, _-_, _*_, _≤_, _<_}
+use mathlib.Core.Path.{_≡_}
+use borrow.Author.Tests.{ltb-false, leb-false}
+use Rattle.record.specs.Reader.{recordTests, recordVerdict}
+use Rattle.record.specs.declared.refusal.Verdict.the-variants.{Accepted}
+use Rattle.record.proofs.First.{passed}
+
+pub record InRange (points room number : ℕ) : Type 0 where
+  pub low : 2 ≤ points
+  pub high : points ≤ 4096
+  pub fits : 24 * (points - 1) ≤ room
+  pub below : number < points - 1
+
+pub in-range : (points room number : ℕ) → recordVerdict points room number ≡ Accepted → InRange points room number
+in-range points room number h =
+    let t = passed (recordTests points room number) h in
+    record {
+      low = ltb-false points 2 (t .0);
+      high = ltb-false 4096 points (t .1 .0);
+      fits = ltb-false room (24 * (points - 1)) (t .1 .1 .0);
+      below = leb-false (points - 1) number (t .1 .1 .1 .0);
+    }

@@ -1,0 +1,155 @@
+-- A tag is read as a section exactly where it is legal, over all 65,536 tags by one computed check; every section's own tag is legal.
+use Prim.Native.Nat.{ℕ, zero, suc, _+_, _*_, _/_, _%_, _^_, _≤_, _<_}
+use native.Mathlib.Omega.{arith}
+use mathlib.Core.Bool.{Bool, true, false, cond, _&&_, _||_, Bool·beq}
+use mathlib.Core.List.{List}
+use mathlib.Core.Logic.{⊎-elim}
+use mathlib.Core.Path.{_≡_, refl, sym, ap, subst, _∙_}
+use borrow.Author.Tests.{lt-ltb, le-ltb}
+use lib.Dec.{eqb, ltb}
+use lib.Ieee.{Float}
+use lib.ListN.{length}
+use Rattle.numbers.specs.Every.{allBelow}
+use Rattle.numbers.proofs.Every.{all-at}
+use Rattle.numbers.proofs.Ways.{never, lt-or-le}
+use Rattle.record.specs.Tag.{legal, spare}
+use Rattle.record.specs.Reading.{quadraticFrom, otherFrom, joined, readSection, slot}
+use Rattle.record.specs.declared.reading.QuadraticFound.{QuadraticFound}
+use Rattle.record.specs.declared.reading.QuadraticFound.the-variants as maybeQuadratic
+use Rattle.record.specs.declared.reading.OtherFound.{OtherFound}
+use Rattle.record.specs.declared.reading.OtherFound.the-variants as maybeOther
+use Rattle.record.specs.declared.reading.Found.{Found}
+use Rattle.record.specs.declared.reading.Found.the-variants as found
+
+-- whether there is a section, and of each part which sort was found: none 0, one that goes alone 1, one that combines 2, unknown 3
+abbrev pub isSection : Found → Bool
+isSection (found.Section s) = true
+isSection found.Illegal = false
+
+abbrev quadraticSort : QuadraticFound → ℕ
+quadraticSort maybeQuadratic.Absent = 0
+quadraticSort (maybeQuadratic.Part p) = 2
+quadraticSort maybeQuadratic.Unknown = 3
+
+abbrev otherSort : OtherFound → ℕ
+otherSort maybeOther.Absent = 0
+otherSort (maybeOther.Constant s) = 1
+otherSort (maybeOther.Gradient s) = 1
+otherSort (maybeOther.Convex s) = 2
+otherSort maybeOther.Unknown = 3
+
+-- the pairs of sorts that make a section
+abbrev pairs : ℕ → ℕ → Bool
+pairs q o = cond (eqb q 0) (eqb o 1 || eqb o 2) (eqb q 2 && (eqb o 0 || eqb o 2))
+
+joined-sorts : (w : Float) (q : QuadraticFound) (o : OtherFound) → isSection (joined w q o) ≡ pairs (quadraticSort q) (otherSort o)
+unfolding joined
+joined-sorts w maybeQuadratic.Unknown maybeOther.Absent = refl
+joined-sorts w maybeQuadratic.Unknown maybeOther.Unknown = refl
+joined-sorts w maybeQuadratic.Unknown (maybeOther.Constant s) = refl
+joined-sorts w maybeQuadratic.Unknown (maybeOther.Gradient s) = refl
+joined-sorts w maybeQuadratic.Unknown (maybeOther.Convex s) = refl
+joined-sorts w maybeQuadratic.Absent maybeOther.Absent = refl
+joined-sorts w maybeQuadratic.Absent maybeOther.Unknown = refl
+joined-sorts w maybeQuadratic.Absent (maybeOther.Constant s) = refl
+joined-sorts w maybeQuadratic.Absent (maybeOther.Gradient s) = refl
+joined-sorts w maybeQuadratic.Absent (maybeOther.Convex s) = refl
+joined-sorts w (maybeQuadratic.Part p) maybeOther.Absent = refl
+joined-sorts w (maybeQuadratic.Part p) maybeOther.Unknown = refl
+joined-sorts w (maybeQuadratic.Part p) (maybeOther.Constant s) = refl
+joined-sorts w (maybeQuadratic.Part p) (maybeOther.Gradient s) = refl
+joined-sorts w (maybeQuadratic.Part p) (maybeOther.Convex s) = refl
+
+-- the sort by the code alone
+abbrev quadraticSorts : ℕ → ℕ
+quadraticSorts code = cond (eqb code 0) 0 (cond (eqb code 2) 2 (cond (eqb code 4) 2 (cond (eqb code 5) 2 3)))
+
+abbrev otherSorts : ℕ → ℕ
+otherSorts code =
+    cond (eqb code 0) 0
+    (cond (eqb code 2) 1
+    (cond (eqb code 4) 1
+    (cond (eqb code 6) 2
+    (cond (eqb code 8) 2
+    (cond (eqb code 10) 2
+    (cond (eqb code 12) 2
+    (cond (eqb code 13) 2 3)))))))
+
+quadratic-cond : (b : Bool) (x y : QuadraticFound) → quadraticSort (cond b x y) ≡ cond b (quadraticSort x) (quadraticSort y)
+quadratic-cond true x y = refl
+quadratic-cond false x y = refl
+
+other-cond : (b : Bool) (x y : OtherFound) → otherSort (cond b x y) ≡ cond b (otherSort x) (otherSort y)
+other-cond true x y = refl
+other-cond false x y = refl
+
+quadratic-sorts : (code : ℕ) (s : List Float) → quadraticSort (quadraticFrom code s) ≡ quadraticSorts code
+unfolding quadraticFrom
+quadratic-sorts code s = simp quadratic-cond
+
+other-sorts : (code : ℕ) (s : List Float) → otherSort (otherFrom code s) ≡ otherSorts code
+unfolding otherFrom
+other-sorts code s = simp other-cond
+
+-- so the tag alone says whether there is a section
+abbrev readable : ℕ → Bool
+readable t = cond (eqb (spare t) 0) (pairs (quadraticSorts (t / 0x1000)) (otherSorts (t / 0x80 % 32))) false
+
+section-cond : (b : Bool) (x y : Found) → isSection (cond b x y) ≡ cond b (isSection x) (isSection y)
+section-cond true x y = refl
+section-cond false x y = refl
+
+read-readable : (t : ℕ) (s : List Float) → 24 ≤ length s → isSection (readSection t s) ≡ readable t
+unfolding readSection
+read-readable t s h =
+    simp (le-ltb (length s) 24 h, section-cond, joined-sorts, quadratic-sorts, other-sorts)
+
+-- the computed check, by the tag's two bytes
+abbrev agrees : ℕ → Bool
+agrees t = Bool·beq (readable t) (legal t)
+
+checked : allBelow 256 (λ h. allBelow 256 (λ l. agrees (h * 256 + l))) ≡ true
+unfolding allBelow
+checked = refl
+
+beq-same : (a b : Bool) → Bool·beq a b ≡ true → a ≡ b
+beq-same true true h = refl
+beq-same true false h = never h refl
+beq-same false true h = never h refl
+beq-same false false h = refl
+
+readable-legal : (t : ℕ) → t < 2 ^ 16 → readable t ≡ legal t
+readable-legal t h =
+    let e : t / 256 * 256 + t % 256 ≡ t = omega arith in
+    let row = all-at 256 (λ k. allBelow 256 (λ l. agrees (k * 256 + l))) checked (t / 256) (omega arith) in
+    let cell = all-at 256 (λ l. agrees (t / 256 * 256 + l)) row (t % 256) (omega arith) in
+    beq-same (readable t) (legal t) (subst (λ (k : ℕ). agrees k ≡ true) e cell)
+
+-- a tag is read as a section exactly where document 01 calls it legal
+pub legal-exactly : (t : ℕ) (s : List Float) → t < 2 ^ 16 → 24 ≤ length s → isSection (readSection t s) ≡ legal t
+legal-exactly t s h l = read-readable t s l ∙ readable-legal t h
+
+no-section : (f : Found) → isSection f ≡ false → f ≡ found.Illegal
+no-section (found.Section s) h = never refl h
+no-section found.Illegal h = refl
+
+-- an illegal tag reads nothing, however many slots there are
+pub illegal-reads-nothing : (t : ℕ) (s : List Float) → t < 2 ^ 16 → legal t ≡ false → readSection t s ≡ found.Illegal
+unfolding readSection
+illegal-reads-nothing t s h e =
+    ⊎-elim
+    (λ (l : length s < 24). simp (lt-ltb (length s) 24 l))
+    (λ (l : 24 ≤ length s). no-section (readSection t s) (legal-exactly t s h l ∙ e))
+    (lt-or-le (length s) 24)
+
+-- how many tags of a row are legal, and of all: 25
+abbrev count : ℕ → (ℕ → Bool) → ℕ
+count zero f = 0
+count (suc n) f = cond (f n) 1 0 + count n f
+
+abbrev countRows : ℕ → ℕ
+countRows zero = 0
+countRows (suc n) = count 256 (λ l. legal (n * 256 + l)) + countRows n
+
+pub twenty-five : countRows 256 ≡ 25
+twenty-five = refl

@@ -1,0 +1,5 @@
+pub mod Refusal
+pub mod Tag
+pub mod Slots
+pub mod Reading
+pub mod Reader

@@ -1,0 +1,55 @@
+// Every refusal of document 01, in words, and its number.
+ghost use mathlib.Core.Path.{_≡_};
+ghost use Rattle.record.specs.Refusal.{number};
+
+pub enum Refusal {
+    LengthsDiffer,
+    MonotonicityOutside,
+    QuadraticityOutside,
+    TooFewPoints,
+    KnotNotFinite,
+    AverageNotFinite,
+    KnotsNotRising,
+    SeamTooLong,
+    NoPreviousCurve,
+    TooManyPoints,
+    BufferTooShort,
+    QueryNotANumber,
+    QueryOutside,
+    DerivativeAsked,
+    RecordNotLegal,
+    NoGivenNode,
+    OrderMalformed,
+}
+
+impl Refusal {
+    pub fn number(self) -> u8
+        ensures { λ r. ⌜ r ≡ number self ⌝ }
+    {
+        match self {
+            Refusal::LengthsDiffer => 1,
+            Refusal::MonotonicityOutside => 2,
+            Refusal::QuadraticityOutside => 3,
+            Refusal::TooFewPoints => 4,
+            Refusal::KnotNotFinite => 5,
+            Refusal::AverageNotFinite => 6,
+            Refusal::KnotsNotRising => 7,
+            Refusal::SeamTooLong => 8,
+            Refusal::NoPreviousCurve => 9,
+            Refusal::TooManyPoints => 10,
+            Refusal::BufferTooShort => 11,
+            Refusal::QueryNotANumber => 12,
+            Refusal::QueryOutside => 13,
+            Refusal::DerivativeAsked => 14,
+            Refusal::RecordNotLegal => 15,
+            Refusal::NoGivenNode => 16,
+            Refusal::OrderMalformed => 17,
+        }
+    }
+}
+
+// What a check says of an input.
+pub enum Verdict {
+    Accepted,
+    Refused(Refusal),
+}

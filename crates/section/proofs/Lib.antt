@@ -1,0 +1,4 @@
+pub mod Ways
+pub mod Unique
+pub mod Figures
+pub mod Laws

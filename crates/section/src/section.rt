@@ -1,0 +1,74 @@
+// One section of a curve: one choice among the nine kinds.
+use crate::combination::Combination;
+use crate::constant_grad::ConstantGrad;
+use crate::convex_monotone2::ConvexMonotone2;
+use crate::convex_monotone3::ConvexMonotone3;
+use crate::convex_monotone4::ConvexMonotone4;
+use crate::convex_monotone4_min::ConvexMonotone4Min;
+use crate::everywhere_constant::EverywhereConstant;
+use crate::quadratic::Quadratic;
+use crate::quadratic_min::QuadraticMin;
+ghost use mathlib.Core.Path.{_≡_};
+ghost use Rattle.section.specs.Section.{value, primitive, «f_next»};
+
+pub enum Section {
+    EverywhereConstant(EverywhereConstant),
+    ConstantGrad(ConstantGrad),
+    ConvexMonotone2(ConvexMonotone2),
+    ConvexMonotone3(ConvexMonotone3),
+    ConvexMonotone4(ConvexMonotone4),
+    ConvexMonotone4Min(ConvexMonotone4Min),
+    Quadratic(Quadratic),
+    QuadraticMin(QuadraticMin),
+    Combination(Combination),
+}
+
+impl Section {
+    pub fn value(self, x: f64) -> f64
+        ensures { λ r. ⌜ r ≡ value self x ⌝ }
+    {
+        match self {
+            Section::EverywhereConstant(s) => s.value(x),
+            Section::ConstantGrad(s) => s.value(x),
+            Section::ConvexMonotone2(s) => s.value(x),
+            Section::ConvexMonotone3(s) => s.value(x),
+            Section::ConvexMonotone4(s) => s.value(x),
+            Section::ConvexMonotone4Min(s) => s.value(x),
+            Section::Quadratic(s) => s.value(x),
+            Section::QuadraticMin(s) => s.value(x),
+            Section::Combination(s) => s.value(x),
+        }
+    }
+
+    pub fn primitive(self, x: f64) -> f64
+        ensures { λ r. ⌜ r ≡ primitive self x ⌝ }
+    {
+        match self {
+            Section::EverywhereConstant(s) => s.primitive(x),
+            Section::ConstantGrad(s) => s.primitive(x),
+            Section::ConvexMonotone2(s) => s.primitive(x),
+            Section::ConvexMonotone3(s) => s.primitive(x),
+            Section::ConvexMonotone4(s) => s.primitive(x),
+            Section::ConvexMonotone4Min(s) => s.primitive(x),
+            Section::Quadratic(s) => s.primitive(x),
+            Section::QuadraticMin(s) => s.primitive(x),
+            Section::Combination(s) => s.primitive(x),
+        }
+    }
+
+    pub fn f_next(self) -> f64
+        ensures { λ r. ⌜ r ≡ «f_next» self ⌝ }
+    {
+        match self {
+            Section::EverywhereConstant(s) => s.f_next(),
+            Section::ConstantGrad(s) => s.f_next(),
+            Section::ConvexMonotone2(s) => s.f_next(),
+            Section::ConvexMonotone3(s) => s.f_next(),
+            Section::ConvexMonotone4(s) => s.f_next(),
+            Section::ConvexMonotone4Min(s) => s.f_next(),
+            Section::Quadratic(s) => s.f_next(),
+            Section::QuadraticMin(s) => s.f_next(),
+            Section::Combination(s) => s.f_next(),
+        }
+    }
+}

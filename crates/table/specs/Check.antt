@@ -1,0 +1,56 @@
+-- 01, Refusal numbers: what is asked of a table
+use Prim.Native.Nat.{ℕ, _+_, _-_, _*_}
+use mathlib.Core.Bool.{Bool, false, not, _&&_, _||_}
+use mathlib.Core.List.{List, [], _∷_}
+use lib.Dec.{eqb, ltb, leb}
+use lib.Ieee.{Float, lt, le}
+use lib.ListN.{length}
+use Rattle.numbers.specs.Every.{allBelow}
+use Rattle.numbers.specs.Words.{nought, one, finite}
+use Rattle.record.specs.Refusal.{Test, _⇒_}
+use Rattle.record.specs.Slots.{slotCount}
+use Rattle.record.specs.declared.refusal.Refusal.the-variants.{LengthsDiffer, MonotonicityOutside, QuadraticityOutside, TooFewPoints, KnotNotFinite, AverageNotFinite, KnotsNotRising, SeamTooLong, TooManyPoints, BufferTooShort}
+use Rattle.table.specs.declared.method.ConvexMonotone.{ConvexMonotone}
+use Rattle.table.specs.declared.ends.Seam.{Seam}
+use Rattle.table.specs.declared.ends.Seam.the-variants as seam
+use Rattle.table.specs.Table.{at}
+
+unfoldable pub allFinite : List Float → Bool
+unfolding allBelow
+allFinite xs = allBelow (length xs) (λ i. finite (at xs i))
+
+-- each knot above the one before
+unfoldable pub rising : List Float → Bool
+unfolding allBelow
+rising xs = allBelow (length xs - 1) (λ i. lt (at xs i) (at xs (i + 1)))
+
+-- in [0, 1]; a NaN is not, and -0.0 is
+abbrev pub inUnit : Float → Bool
+inUnit x = le nought x && le x one
+
+abbrev pub seamTooLong : Seam → ℕ → Bool
+seamTooLong seam.Absent n = false
+seamTooLong (seam.At count g) n = leb n (count + 1)
+
+abbrev pub noRoom : ℕ → ℕ → ℕ → ℕ → Bool
+noRoom n nodes tags slots = ltb nodes n || (ltb tags (n - 1) || ltb slots (slotCount * (n - 1)))
+
+-- 1 to 7
+abbrev pub tableTests : List Float → List Float → ConvexMonotone → List Test
+tableTests x y method =
+    (not (eqb (length x) (length y)) ⇒ LengthsDiffer)
+    ∷ (not (inUnit (method .monotonicity)) ⇒ MonotonicityOutside)
+    ∷ (not (inUnit (method .quadraticity)) ⇒ QuadraticityOutside)
+    ∷ (ltb (length x) 2 ⇒ TooFewPoints)
+    ∷ (not (allFinite x) ⇒ KnotNotFinite)
+    ∷ (not (allFinite y) ⇒ AverageNotFinite)
+    ∷ (not (rising x) ⇒ KnotsNotRising)
+    ∷ []
+
+-- 10 and 11
+abbrev pub roomTests : ℕ → ℕ → ℕ → ℕ → List Test
+roomTests n nodes tags slots = (ltb 4096 n ⇒ TooManyPoints) ∷ (noRoom n nodes tags slots ⇒ BufferTooShort) ∷ []
+
+-- 8
+abbrev pub seamTest : Seam → ℕ → Test
+seamTest s n = seamTooLong s n ⇒ SeamTooLong

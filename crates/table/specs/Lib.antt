@@ -1,0 +1,3 @@
+pub mod Method
+pub mod Table
+pub mod Check
