@@ -1,53 +1,50 @@
 // A file of answers, line by line.
+use crate::groups::State;
 use crate::roots;
+use crate::seen::Seen;
 use crate::words;
+use crate::words::MOST;
 
-pub struct Seen {
-    pub roots: u64,
-    pub strange: u64,
-    pub mismatches: u64,
+fn root(words: &[u64; MOST], state: State) -> State {
+    let old = state.seen;
+    let subject = state.subject;
+    let seen = old.root(roots::agrees(words[0], words[1]));
+    State { seen, subject }
 }
 
-impl Seen {
-    fn none() -> Self {
-        Self {
-            roots: 0,
-            strange: 0,
-            mismatches: 0,
-        }
+// What a line of this letter and so many words adds.
+fn known(letter: u8, words: &[u64; MOST], count: usize, state: State) -> State {
+    if letter == b'r' && count == 2 {
+        return root(words, state);
     }
-
-    fn root(mut self, agrees: bool) -> Self {
-        self.roots = words::more(self.roots);
-        if !agrees {
-            self.mismatches = words::more(self.mismatches);
-        }
-        self
+    if letter == b's' {
+        return state.section(words, count);
     }
+    if letter == b't' && count == 26 {
+        return state.record(words);
+    }
+    if letter == b'x' && count == 3 {
+        return state.query(words);
+    }
+    state.strange_line()
 }
 
 // What a line adds. Its letter stands at `at`, and its words after that.
-fn line(text: &[u8], at: usize, seen: Seen) -> Seen {
+fn line(text: &[u8], at: usize, state: State) -> State {
     if text.len() <= at {
-        return seen;
+        return state;
     }
-    let letter = text[at];
-    if letter == b'r' {
-        if at + 1 < text.len() {
-            return seen.root(roots::agrees(text, at + 1));
-        }
-    }
-    let mut other = seen;
-    other.strange = words::more(other.strange);
-    other
+    let found = words::of_line(text, at + 1);
+    let values = found.values;
+    known(text[at], &values, found.count, state)
 }
 
 pub fn replay(text: &[u8]) -> Seen {
-    let mut seen = Seen::none();
+    let mut state = State::first();
     let mut at = 0;
     while at < text.len() {
-        seen = line(text, at, seen);
+        state = line(text, at, state);
         at = words::next_line(text, at);
     }
-    seen
+    state.seen
 }

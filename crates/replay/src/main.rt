@@ -1,6 +1,11 @@
 // Replays the original's answers: reads its file from standard input, works each answer out again and counts what differs.
+mod groups;
 mod lines;
+mod queries;
+mod records;
 mod roots;
+mod sections;
+mod seen;
 mod words;
 
 ghost use mathlib.Core.Path.{_≡_};
@@ -19,11 +24,29 @@ fn print_count(name: &[u8], n: u64) {
     io::write_all(1, b"\n");
 }
 
+fn print_sections(n: [u64; seen::KINDS]) {
+    print_count(b"sections EverywhereConstant ", n[0]);
+    print_count(b"sections ConstantGrad ", n[1]);
+    print_count(b"sections ConvexMonotone2 ", n[2]);
+    print_count(b"sections ConvexMonotone3 ", n[3]);
+    print_count(b"sections ConvexMonotone4 ", n[4]);
+    print_count(b"sections ConvexMonotone4Min ", n[5]);
+    print_count(b"sections ConvexMonotone4Min split ", n[9]);
+    print_count(b"sections Quadratic ", n[6]);
+    print_count(b"sections QuadraticMin ", n[7]);
+    print_count(b"sections QuadraticMin split ", n[10]);
+    print_count(b"sections Combination ", n[8]);
+}
+
 fn main() {
     let mut text = room();
     let n = io::read_full(0, &mut text);
     let seen = lines::replay(&text[..n]);
     print_count(b"roots ", seen.roots);
+    let sections = seen.sections;
+    print_sections(sections);
+    print_count(b"records ", seen.records);
+    print_count(b"queries ", seen.queries);
     print_count(b"lines of no known kind ", seen.strange);
     print_count(b"mismatches ", seen.mismatches);
 }

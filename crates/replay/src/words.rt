@@ -2,10 +2,19 @@
 ghost use mathlib.Core.Path.{_≡_};
 ghost use Prim.Native.Nat.{_+_, _≤_, _<_};
 
+// How many words the longest line has.
+pub const MOST: usize = 26;
+
 // A number, and the place after its last digit.
-pub struct Word {
-    pub value: u64,
-    pub next: usize,
+struct Word {
+    value: u64,
+    next: usize,
+}
+
+// The words of a line. Those past the count are 0.
+pub struct Words {
+    pub values: [u64; MOST],
+    pub count: usize,
 }
 
 fn wide(x: u8) -> u64
@@ -34,7 +43,9 @@ fn digit(b: u8) -> u64
 }
 
 // The number whose digits start at a place, of which the last sixteen count.
-fn digits(text: &[u8], from: usize) -> Word {
+fn digits(text: &[u8], from: usize) -> Word
+    ensures { λ r. ⌜ from ≤ r .next ⌝ }
+{
     let mut value: u64 = 0;
     let mut at = from;
     while at < text.len() {
@@ -48,12 +59,38 @@ fn digits(text: &[u8], from: usize) -> Word {
     Word { value, next: at }
 }
 
-// The word after the space that stands at a place.
-pub fn next_word(text: &[u8], at: usize) -> Word {
-    if at < text.len() {
-        return digits(text, at + 1);
+fn none() -> Words {
+    Words {
+        values: [0; MOST],
+        count: 0,
     }
-    Word { value: 0, next: at }
+}
+
+// The words from a place to the line end. There are none where the line is not made of words, so no such line is half trusted.
+pub fn of_line(text: &[u8], from: usize) -> Words {
+    let mut values = [0; MOST];
+    let mut count: usize = 0;
+    let mut at = from;
+    while at < text.len() {
+        let b = text[at];
+        if b == b'\n' {
+            return Words { values, count };
+        }
+        let first = at + 1;
+        let word = digits(text, first);
+        let next = word.next;
+        let length = next - first;
+        if b != b' ' || length == 0 || 16 < length {
+            return none();
+        }
+        if MOST <= count {
+            return none();
+        }
+        values[count] = word.value;
+        count += 1;
+        at = next;
+    }
+    none()
 }
 
 // The place after the next line end.
@@ -69,12 +106,4 @@ pub fn next_line(text: &[u8], from: usize) -> usize
         }
     }
     at
-}
-
-// One more, unless there is no more.
-pub fn more(n: u64) -> u64 {
-    if n < 0xffff_ffff_ffff_ffff {
-        return n + 1;
-    }
-    n
 }

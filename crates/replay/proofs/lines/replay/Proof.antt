@@ -7,13 +7,13 @@ use Rattle.replay.proofs.lines.replay.Statement.{statement}
 use Rattle.replay.proofs.lines.replay.Tie as tie
 
 abbrev Inv-loop : tie.InvT-loop
-Inv-loop text seen₀ at₀ seen at = (0 ≤ at)
+Inv-loop text state₀ at₀ state at = (0 ≤ at)
 
 abbrev μ-loop : tie.MeasureT-loop
-μ-loop text seen₀ at₀ seen at = length text - at
+μ-loop text state₀ at₀ state at = length text - at
 
-none-requires : tie.Need-none-requires Inv-loop μ-loop
-none-requires c κs = search needs
+first-requires : tie.Need-first-requires Inv-loop μ-loop
+first-requires c κs = search needs
 
 loop-holds : tie.Need-loop-holds Inv-loop μ-loop
 loop-holds c = search needs
@@ -39,7 +39,7 @@ replay-spec =
     (tie.spec
     Inv-loop
     μ-loop
-    none-requires
+    first-requires
     loop-holds
     line-requires
     next-line-requires

@@ -1,0 +1,3 @@
+// Curves: a table goes in, and a curve or a refusal comes out; a query of it gets its price.
+mod nodes;
+pub mod sections;
