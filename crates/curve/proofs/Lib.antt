@@ -1,2 +1,4 @@
+pub mod Accepted
 pub mod Places
 pub mod Rows
+pub mod Verdicts

@@ -1,0 +1,97 @@
+// From a table to a curve.
+use crate::curve::Built;
+use crate::curve::Curve;
+use crate::sections::make;
+use record::refusal::Refusal;
+use record::refusal::Verdict;
+use table::check::room_verdict;
+use table::check::seam_too_long;
+use table::check::table_verdict;
+use table::ends::End;
+use table::ends::Frame;
+use table::ends::Seam;
+use table::method::ConvexMonotone;
+ghost use mathlib.Core.Path.{_≡_};
+ghost use lib.ListN.{length};
+ghost use Rattle.record.specs.Refusal.{first};
+ghost use Rattle.curve.specs.Build.{buildTests, buildVerdict, wholeFrame, curveOf, answer, left, nodesAfter, tagsAfter, slotsAfter};
+
+// The first refusal of a table, for lent buffers of these lengths.
+pub fn build_verdict(
+    xs: &[f64],
+    ys: &[f64],
+    method: ConvexMonotone,
+    seam: Seam,
+    nodes: usize,
+    tags: usize,
+    slots: usize,
+) -> Verdict
+    ensures { λ r. ⌜ r ≡ first (buildTests (now (xs .entry)) (now (ys .entry)) method seam nodes tags slots) ⌝ }
+{
+    let verdict = table_verdict(xs, ys, method);
+    match verdict {
+        Verdict::Refused(_) => verdict,
+        Verdict::Accepted => {
+            if seam_too_long(seam, xs.len()) {
+                return Verdict::Refused(Refusal::SeamTooLong);
+            }
+            room_verdict(xs.len(), nodes, tags, slots)
+        }
+    }
+}
+
+// Two points are one constant section, and their nodes are +0.0.
+fn whole_frame(points: usize, method: ConvexMonotone, hold: bool, seam: Seam) -> Frame
+    ensures { λ r. ⌜ r ≡ wholeFrame points method hold seam ⌝ }
+{
+    if points == 2 {
+        return Frame {
+            method,
+            hold: true,
+            seam,
+            left: End::Given(0.0),
+            right: End::Given(0.0),
+            start: 0.0,
+        };
+    }
+    Frame {
+        method,
+        hold,
+        seam,
+        left: End::Free,
+        right: End::Free,
+        start: 0.0,
+    }
+}
+
+// The curve of a table of knots and averages, its nodes, tags and slots written from the start of the lent buffers; or the first refusal, and no
+// buffer changed. `hold` asks for a constant last period.
+pub fn build(
+    xs: &[f64],
+    ys: &[f64],
+    method: ConvexMonotone,
+    hold: bool,
+    seam: Seam,
+    nodes: &mut [f64],
+    tags: &mut [u16],
+    slots: &mut [f64],
+) -> Built
+    ensures built { λ r. ⌜ r ≡ answer (buildVerdict (now (xs .entry)) (now (ys .entry)) method seam (now (nodes .entry)) (now (tags .entry)) (now (slots .entry))) (curveOf (now (xs .entry)) (now (ys .entry)) (wholeFrame (length (now (xs .entry))) method hold seam)) ⌝ }
+    ensures nodes { λ _. ⌜ now (nodes .exit) ≡ left (buildVerdict (now (xs .entry)) (now (ys .entry)) method seam (now (nodes .entry)) (now (tags .entry)) (now (slots .entry))) (nodesAfter (now (xs .entry)) (now (ys .entry)) (wholeFrame (length (now (xs .entry))) method hold seam) (now (nodes .entry))) (now (nodes .entry)) ⌝ }
+    ensures tags { λ _. ⌜ now (tags .exit) ≡ left (buildVerdict (now (xs .entry)) (now (ys .entry)) method seam (now (nodes .entry)) (now (tags .entry)) (now (slots .entry))) (tagsAfter (now (xs .entry)) (now (ys .entry)) (wholeFrame (length (now (xs .entry))) method hold seam) (now (tags .entry))) (now (tags .entry)) ⌝ }
+    ensures slots { λ _. ⌜ now (slots .exit) ≡ left (buildVerdict (now (xs .entry)) (now (ys .entry)) method seam (now (nodes .entry)) (now (tags .entry)) (now (slots .entry))) (slotsAfter (now (xs .entry)) (now (ys .entry)) (wholeFrame (length (now (xs .entry))) method hold seam) (now (slots .entry))) (now (slots .entry)) ⌝ }
+{
+    match build_verdict(xs, ys, method, seam, nodes.len(), tags.len(), slots.len()) {
+        Verdict::Refused(refusal) => Built::Refused(refusal),
+        Verdict::Accepted => {
+            let frame = whole_frame(xs.len(), method, hold, seam);
+            let tail = make(xs, ys, frame, nodes, tags, slots);
+            Built::Curve(Curve {
+                sections: xs.len() - 1,
+                held: frame.hold,
+                extrapolates: false,
+                tail,
+            })
+        }
+    }
+}
