@@ -27,7 +27,7 @@ pub record Fits (x y : List Float) (nodes tags slots : ℕ) : Type 0 where
   pub in-tags : length x - 1 ≤ tags
   pub in-slots : 24 * (length x - 1) ≤ slots
 
-or-none : (a b : Bool) → a || b ≡ false → (a ≡ false) × (b ≡ false)
+pub or-none : (a b : Bool) → a || b ≡ false → (a ≡ false) × (b ≡ false)
 or-none true b h = (h, never refl h)
 or-none false b h = (refl, h)
 

@@ -1,4 +1,6 @@
 pub mod Accepted
+pub mod Answers
 pub mod Places
 pub mod Rows
 pub mod Verdicts
+pub mod Walk

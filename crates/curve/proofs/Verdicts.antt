@@ -1,6 +1,6 @@
 -- One check after another: the second speaks only where the first accepts.
 use Prim.Native.Nat.{ℕ}
-use mathlib.Core.Bool.{true, false}
+use mathlib.Core.Bool.{Bool, true, false, not}
 use mathlib.Core.List.{List, _∷_, _++_}
 use mathlib.Core.Path.{_≡_, sym, ap, _∙_}
 use Rattle.record.specs.Refusal.{Test, first}
@@ -25,3 +25,10 @@ seam-here s n nodes tags slots h = rw h
 pub seam-over : (s : Seam) (n nodes tags slots : ℕ) (v : Verdict) → seamTooLong s n ≡ false → v ≡ first (roomTests n nodes tags slots) →
     v ≡ first (seamTest s n ∷ roomTests n nodes tags slots)
 seam-over s n nodes tags slots v h e = rw h e
+
+-- a call's answer, and what a test made of it, as it stands or turned round
+pub told : {a b t : Bool} → a ≡ b → a ≡ t → b ≡ t
+told e h = sym e ∙ h
+
+pub asked-not : {a b t : Bool} → a ≡ b → not a ≡ t → not b ≡ t
+asked-not e h = sym (ap not e) ∙ h

@@ -1,3 +1,4 @@
 pub mod Sections
 pub mod Curve
 pub mod Build
+pub mod Query

@@ -2,4 +2,5 @@
 pub mod build;
 pub mod curve;
 mod nodes;
+pub mod query;
 pub mod sections;
