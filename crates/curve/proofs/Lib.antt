@@ -1,3 +1,4 @@
+pub mod Above
 pub mod Accepted
 pub mod Answers
 pub mod Places

@@ -35,9 +35,10 @@ wholeFrame n method hold seam =
     (record { method = method; hold = true; seam = seam; left = end.Given nought; right = end.Given nought; start = nought })
     (record { method = method; hold = hold; seam = seam; left = end.Free; right = end.Free; start = nought })
 
--- the curve of a table that is not refused
-unfoldable pub curveOf : List Float → List Float → Frame → Built
-curveOf x y frame = built.Curve (record { sections = length x - 1; held = frame .hold; extrapolates = false; tail = tailOf x y frame })
+-- The curve of a table that is not refused. It keeps what was asked about its last period: growth from two points retains their section unless a
+-- held period was asked for.
+unfoldable pub curveOf : List Float → List Float → Frame → Bool → Built
+curveOf x y frame hold = built.Curve (record { sections = length x - 1; held = hold; extrapolates = false; tail = tailOf x y frame })
 
 abbrev pub answer : Verdict → Built → Built
 answer verdict.Accepted b = b

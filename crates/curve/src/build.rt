@@ -76,7 +76,7 @@ pub fn build(
     tags: &mut [u16],
     slots: &mut [f64],
 ) -> Built
-    ensures built { λ r. ⌜ r ≡ answer (buildVerdict (now (xs .entry)) (now (ys .entry)) method seam (now (nodes .entry)) (now (tags .entry)) (now (slots .entry))) (curveOf (now (xs .entry)) (now (ys .entry)) (wholeFrame (length (now (xs .entry))) method hold seam)) ⌝ }
+    ensures built { λ r. ⌜ r ≡ answer (buildVerdict (now (xs .entry)) (now (ys .entry)) method seam (now (nodes .entry)) (now (tags .entry)) (now (slots .entry))) (curveOf (now (xs .entry)) (now (ys .entry)) (wholeFrame (length (now (xs .entry))) method hold seam) hold) ⌝ }
     ensures nodes { λ _. ⌜ now (nodes .exit) ≡ left (buildVerdict (now (xs .entry)) (now (ys .entry)) method seam (now (nodes .entry)) (now (tags .entry)) (now (slots .entry))) (nodesAfter (now (xs .entry)) (now (ys .entry)) (wholeFrame (length (now (xs .entry))) method hold seam) (now (nodes .entry))) (now (nodes .entry)) ⌝ }
     ensures tags { λ _. ⌜ now (tags .exit) ≡ left (buildVerdict (now (xs .entry)) (now (ys .entry)) method seam (now (nodes .entry)) (now (tags .entry)) (now (slots .entry))) (tagsAfter (now (xs .entry)) (now (ys .entry)) (wholeFrame (length (now (xs .entry))) method hold seam) (now (tags .entry))) (now (tags .entry)) ⌝ }
     ensures slots { λ _. ⌜ now (slots .exit) ≡ left (buildVerdict (now (xs .entry)) (now (ys .entry)) method seam (now (nodes .entry)) (now (tags .entry)) (now (slots .entry))) (slotsAfter (now (xs .entry)) (now (ys .entry)) (wholeFrame (length (now (xs .entry))) method hold seam) (now (slots .entry))) (now (slots .entry)) ⌝ }
@@ -88,7 +88,7 @@ pub fn build(
             let tail = make(xs, ys, frame, nodes, tags, slots);
             Built::Curve(Curve {
                 sections: xs.len() - 1,
-                held: frame.hold,
+                held: hold,
                 extrapolates: false,
                 tail,
             })

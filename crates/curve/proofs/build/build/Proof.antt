@@ -1,6 +1,6 @@
 -- `build::build` meets its contract: a refused table changes nothing, and an accepted one is made.
 use Prim.Native.Nat.{_-_}
-use mathlib.Core.Bool.{false}
+use mathlib.Core.Bool.{Bool, false}
 use mathlib.Core.List.{List}
 use lib.Ieee.{Float}
 use native.Mathlib.Omega.{arith}
@@ -39,10 +39,10 @@ returns c =
     let e = sym (c .before .before .before .build-verdict .ensures) ∙ c .before .refusal .given .1 in
     (refused v _ _ e, (kept v _ _ _ e, (kept v _ _ _ e, kept v _ _ _ e)))
 
-curve-same : (x y : List Float) (g w : Frame) (t : Tail) → g ≡ w → t ≡ tailOf x y g →
-    built.Curve (record { sections = length x - 1; held = g .hold; extrapolates = false; tail = t }) ≡ curveOf x y w
+curve-same : (x y : List Float) (g w : Frame) (hold : Bool) (t : Tail) → g ≡ w → t ≡ tailOf x y g →
+    built.Curve (record { sections = length x - 1; held = hold; extrapolates = false; tail = t }) ≡ curveOf x y w hold
 unfolding curveOf
-curve-same x y g w t f e = rw (e, f)
+curve-same x y g w hold t f e = rw (e, f)
 
 returns-2 : tie.Need-returns-2
 returns-2 c =
@@ -54,7 +54,7 @@ returns-2 c =
     let f = c .before .before .before .before .before .before .before .before .before .before .whole-frame .ensures in
     let m = c .before .before .before .before .before .before .make .ensures in
     let e = accepted t in (
-      made v _ _ e (curve-same x y _ _ _ f (m .0)),
+      made v _ _ e (curve-same x y _ _ (a .hold) _ f (m .0)),
       (
         written v _ _ _ e (m .1 .0 ∙ ap (λ (g : Frame). nodesAfter x y g (a .nodes .now)) f),
         (
