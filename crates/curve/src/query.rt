@@ -107,8 +107,8 @@ fn covering(xs: &[f64], curve: Curve, tags: &[u16], slots: &[f64], q: f64) -> Fo
     requires { ⌜ (2 ≤ length (now xs)) × (length (now xs) ≤ 4096) × (length (now xs) - 1 ≤ length (now tags)) × (24 * (length (now xs) - 1) ≤ length (now slots)) ⌝ }
     ensures { λ r. ⌜ r ≡ covering (now (xs .entry)) curve (now (tags .entry)) (now (slots .entry)) q ⌝ }
 {
-    let last = xs.len() - 1;
-    if xs[last] <= q {
+    let end = xs.len() - 1;
+    if xs[end] <= q {
         let tail = curve.tail;
         return Found::Section(Section::EverywhereConstant(EverywhereConstant::new(
             tail.value,
