@@ -7,7 +7,8 @@ use lib.Dec.{ltb}
 use lib.Ieee.{Float}
 use lib.ListN.{length}
 use Rattle.section.specs.declared.section.Section.{Section}
-use Rattle.record.specs.Refusal.{first}
+use Rattle.numbers.specs.Words.{nought}
+use Rattle.record.specs.Refusal.{first, number}
 use Rattle.record.specs.declared.reading.Found.{Found}
 use Rattle.record.specs.declared.reading.Found.the-variants as found
 use Rattle.record.specs.declared.refusal.Refusal.{Refusal}
@@ -16,7 +17,11 @@ use Rattle.record.specs.declared.refusal.Verdict.{Verdict}
 use Rattle.record.specs.declared.refusal.Verdict.the-variants as verdict
 use Rattle.record.proofs.First.{passed}
 use Rattle.curve.specs.declared.curve.Curve.{Curve}
-use Rattle.curve.specs.Query.{queryTests, coveredOf, ask}
+use Rattle.curve.specs.declared.curve.Built.{Built}
+use Rattle.curve.specs.declared.curve.Built.the-variants as built
+use Rattle.curve.specs.Curve.{toldCurve}
+use Rattle.curve.specs.Query.{queryTests, coveredOf, ask, toldNumber}
+use Rattle.curve.specs.declared.query.Asked.{Asked}
 use Rattle.curve.specs.declared.query.Covered.{Covered}
 use Rattle.curve.specs.declared.query.Covered.the-variants as covered
 use Rattle.curve.specs.declared.query.Asked.the-variants as asked
@@ -54,3 +59,17 @@ number-of g k s v e f = rw (e, f)
 
 pub refusal-of : (g : Section → Float) (k : Covered) (r : Refusal) → k ≡ covered.Refused r → asked.Refused r ≡ ask g k
 refusal-of g k r e = rw e
+
+-- an answer in numbers
+pub told-number : (k : Asked) (v : Float) → k ≡ asked.Number v → record { refusal = 0; answer = v } ≡ toldNumber k
+told-number k v e = rw e
+
+pub told-refusal : (k : Asked) (r : Refusal) (n : ℕ) → k ≡ asked.Refused r → n ≡ number r → record { refusal = n; answer = nought } ≡ toldNumber k
+told-refusal k r n e f = rw (e, f)
+
+pub told-curve : (b : Built) (c : Curve) → b ≡ built.Curve c → record { refusal = 0; sections = c .sections; tail = c .tail } ≡ toldCurve b
+told-curve b c e = rw e
+
+pub told-no-curve : (b : Built) (r : Refusal) (n : ℕ) → b ≡ built.Refused r → n ≡ number r →
+    record { refusal = n; sections = 0; tail = record { value = nought; total = nought; from = nought } } ≡ toldCurve b
+told-no-curve b r n e f = rw (e, f)

@@ -58,3 +58,17 @@ module _ (x y : List Float) (frame : Frame) where
 
   abbrev pub slotsAfter : List Float → List Float
   slotsAfter old = overlay 0 (slotCount * (length x - 1)) (slotAt x y frame) old
+
+-- what `build` answers, and what it leaves in each lent buffer
+module _ (x y : List Float) (method : ConvexMonotone) (hold : Bool) (seam : Seam) (nodes : List Float) (tags : List ℕ) (slots : List Float) where
+  abbrev pub builtOf : Built
+  builtOf = answer (buildVerdict x y method seam nodes tags slots) (curveOf x y (wholeFrame (length x) method hold seam) hold)
+
+  abbrev pub nodesLeft : List Float
+  nodesLeft = left (buildVerdict x y method seam nodes tags slots) (nodesAfter x y (wholeFrame (length x) method hold seam) nodes) nodes
+
+  abbrev pub tagsLeft : List ℕ
+  tagsLeft = left (buildVerdict x y method seam nodes tags slots) (tagsAfter x y (wholeFrame (length x) method hold seam) tags) tags
+
+  abbrev pub slotsLeft : List Float
+  slotsLeft = left (buildVerdict x y method seam nodes tags slots) (slotsAfter x y (wholeFrame (length x) method hold seam) slots) slots

@@ -2,3 +2,4 @@ pub mod Sections
 pub mod Curve
 pub mod Build
 pub mod Query
+pub mod Growth

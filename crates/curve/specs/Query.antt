@@ -26,6 +26,7 @@ use Rattle.curve.specs.declared.query.Covered.{Covered}
 use Rattle.curve.specs.declared.query.Covered.the-variants as covered
 use Rattle.curve.specs.declared.query.Asked.{Asked}
 use Rattle.curve.specs.declared.query.Asked.the-variants as asked
+use Rattle.curve.specs.declared.query.ToldNumber.{ToldNumber}
 
 -- inside the knots, or allowed outside them
 abbrev pub outside : List Float → Curve → Float → Bool
@@ -75,10 +76,7 @@ abbrev pub ask : (Section → Float) → Covered → Asked
 ask f (covered.Section s) = asked.Number (f s)
 ask f (covered.Refused r) = asked.Refused r
 
-pub record ToldNumber : Type 0 where
-  pub refusal : ℕ
-  pub answer : Float
-
+-- a refusal's number, or 0, with the answer
 abbrev pub toldNumber : Asked → ToldNumber
 toldNumber (asked.Number v) = record { refusal = 0; answer = v }
 toldNumber (asked.Refused r) = record { refusal = number r; answer = nought }

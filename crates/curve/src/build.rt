@@ -12,9 +12,8 @@ use table::ends::Frame;
 use table::ends::Seam;
 use table::method::ConvexMonotone;
 ghost use mathlib.Core.Path.{_≡_};
-ghost use lib.ListN.{length};
 ghost use Rattle.record.specs.Refusal.{first};
-ghost use Rattle.curve.specs.Build.{buildTests, buildVerdict, wholeFrame, curveOf, answer, left, nodesAfter, tagsAfter, slotsAfter};
+ghost use Rattle.curve.specs.Build.{buildTests, wholeFrame, builtOf, nodesLeft, tagsLeft, slotsLeft};
 
 // The first refusal of a table, for lent buffers of these lengths.
 pub fn build_verdict(
@@ -76,10 +75,10 @@ pub fn build(
     tags: &mut [u16],
     slots: &mut [f64],
 ) -> Built
-    ensures built { λ r. ⌜ r ≡ answer (buildVerdict (now (xs .entry)) (now (ys .entry)) method seam (now (nodes .entry)) (now (tags .entry)) (now (slots .entry))) (curveOf (now (xs .entry)) (now (ys .entry)) (wholeFrame (length (now (xs .entry))) method hold seam) hold) ⌝ }
-    ensures nodes { λ _. ⌜ now (nodes .exit) ≡ left (buildVerdict (now (xs .entry)) (now (ys .entry)) method seam (now (nodes .entry)) (now (tags .entry)) (now (slots .entry))) (nodesAfter (now (xs .entry)) (now (ys .entry)) (wholeFrame (length (now (xs .entry))) method hold seam) (now (nodes .entry))) (now (nodes .entry)) ⌝ }
-    ensures tags { λ _. ⌜ now (tags .exit) ≡ left (buildVerdict (now (xs .entry)) (now (ys .entry)) method seam (now (nodes .entry)) (now (tags .entry)) (now (slots .entry))) (tagsAfter (now (xs .entry)) (now (ys .entry)) (wholeFrame (length (now (xs .entry))) method hold seam) (now (tags .entry))) (now (tags .entry)) ⌝ }
-    ensures slots { λ _. ⌜ now (slots .exit) ≡ left (buildVerdict (now (xs .entry)) (now (ys .entry)) method seam (now (nodes .entry)) (now (tags .entry)) (now (slots .entry))) (slotsAfter (now (xs .entry)) (now (ys .entry)) (wholeFrame (length (now (xs .entry))) method hold seam) (now (slots .entry))) (now (slots .entry)) ⌝ }
+    ensures built { λ r. ⌜ r ≡ builtOf (now (xs .entry)) (now (ys .entry)) method hold seam (now (nodes .entry)) (now (tags .entry)) (now (slots .entry)) ⌝ }
+    ensures nodes { λ _. ⌜ now (nodes .exit) ≡ nodesLeft (now (xs .entry)) (now (ys .entry)) method hold seam (now (nodes .entry)) (now (tags .entry)) (now (slots .entry)) ⌝ }
+    ensures tags { λ _. ⌜ now (tags .exit) ≡ tagsLeft (now (xs .entry)) (now (ys .entry)) method hold seam (now (nodes .entry)) (now (tags .entry)) (now (slots .entry)) ⌝ }
+    ensures slots { λ _. ⌜ now (slots .exit) ≡ slotsLeft (now (xs .entry)) (now (ys .entry)) method hold seam (now (nodes .entry)) (now (tags .entry)) (now (slots .entry)) ⌝ }
 {
     match build_verdict(xs, ys, method, seam, nodes.len(), tags.len(), slots.len()) {
         Verdict::Refused(refusal) => Built::Refused(refusal),

@@ -2,7 +2,7 @@
 use crate::sections::Tail;
 use record::refusal::Refusal;
 ghost use mathlib.Core.Path.{_≡_};
-ghost use Rattle.curve.specs.Curve.{withExtrapolation};
+ghost use Rattle.curve.specs.Curve.{withExtrapolation, toldCurve};
 
 pub struct Curve {
     pub sections: usize,
@@ -24,5 +24,38 @@ impl Curve {
     {
         self.extrapolates = allow;
         self
+    }
+}
+
+// An answer in numbers: the refusal's, or 0, and what a curve has; a refused one has nothing.
+pub struct ToldCurve {
+    pub refusal: u8,
+    pub sections: usize,
+    pub tail: Tail,
+}
+
+impl Built {
+    pub fn told(self) -> ToldCurve
+        ensures { λ r. ⌜ r ≡ toldCurve self ⌝ }
+    {
+        match self {
+            Built::Curve(curve) => {
+                let tail = curve.tail;
+                ToldCurve {
+                    refusal: 0,
+                    sections: curve.sections,
+                    tail,
+                }
+            }
+            Built::Refused(refusal) => ToldCurve {
+                refusal: refusal.number(),
+                sections: 0,
+                tail: Tail {
+                    value: 0.0,
+                    total: 0.0,
+                    from: 0.0,
+                },
+            },
+        }
     }
 }

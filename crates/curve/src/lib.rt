@@ -1,6 +1,7 @@
 // Curves: a table goes in, and a curve or a refusal comes out; a query of it gets its price.
 pub mod build;
 pub mod curve;
+pub mod growth;
 mod nodes;
 pub mod query;
 pub mod sections;

@@ -17,7 +17,7 @@ ghost use lib.ListN.{length};
 ghost use Rattle.record.specs.Refusal.{first};
 ghost use Rattle.record.specs.Slots.{slotCount};
 ghost use Rattle.section.specs.Section.{value, primitive};
-ghost use Rattle.curve.specs.Query.{outside, queryTests, placeOf, covering, coveredAt, ask};
+ghost use Rattle.curve.specs.Query.{outside, queryTests, placeOf, covering, coveredAt, ask, toldNumber};
 
 // The section that answers a query, or why there is none.
 pub enum Covered {
@@ -29,6 +29,26 @@ pub enum Covered {
 pub enum Asked {
     Number(f64),
     Refused(Refusal),
+}
+
+// The same in numbers: the refusal's, or 0, and the answer, which is +0.0 where it is refused.
+pub struct ToldNumber {
+    pub refusal: u8,
+    pub answer: f64,
+}
+
+impl Asked {
+    pub fn told(self) -> ToldNumber
+        ensures { λ r. ⌜ r ≡ toldNumber self ⌝ }
+    {
+        match self {
+            Asked::Number(answer) => ToldNumber { refusal: 0, answer },
+            Asked::Refused(refusal) => ToldNumber {
+                refusal: refusal.number(),
+                answer: 0.0,
+            },
+        }
+    }
 }
 
 fn no_room(points: usize, tags: usize, slots: usize) -> bool

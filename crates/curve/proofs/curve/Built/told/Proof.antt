@@ -1,0 +1,13 @@
+-- `Built::told` meets its contract.
+use borrow.Author.Needs.{needs}
+use Rattle.curve.proofs.Answers.{told-curve, told-no-curve}
+use Rattle.curve.proofs.curve.Built.told.Statement.{statement}
+use Rattle.curve.proofs.curve.Built.told.Tie as tie
+
+pub told-spec : {M : Type 1} → statement M
+told-spec =
+    tie.close
+    (tie.spec
+    (λ c. search needs) (λ c. search needs) (λ c κs. search needs)
+    (λ c. told-curve _ _ (c .before .before .self .given .1))
+    (λ c. told-no-curve _ _ _ (c .before .before .self2 .given .1) (c .number .ensures)))

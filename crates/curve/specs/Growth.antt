@@ -1,0 +1,69 @@
+-- 01, Refusal numbers: growth; Queries, settings and growth
+use Prim.Native.Nat.{ℕ, _+_, _-_, _*_}
+use mathlib.Core.Bool.{Bool, cond, not, _||_}
+use mathlib.Core.List.{List}
+use lib.Dec.{eqb, ltb}
+use lib.Ieee.{Float}
+use lib.ListN.{length, take, drop, getD}
+use Rattle.section.specs.Section.{«f_next»}
+use Rattle.record.specs.Reading.{readSection}
+use Rattle.record.specs.Slots.{slotCount}
+use Rattle.record.specs.declared.reading.Found.{Found}
+use Rattle.record.specs.declared.reading.Found.the-variants as found
+use Rattle.record.specs.declared.refusal.Refusal.the-variants.{NoPreviousCurve, RecordNotLegal}
+use Rattle.table.specs.declared.ends.Seam.{Seam}
+use Rattle.table.specs.declared.ends.Seam.the-variants as seam
+use Rattle.curve.specs.declared.curve.Curve.{Curve}
+use Rattle.curve.specs.declared.curve.Built.{Built}
+use Rattle.curve.specs.declared.curve.Built.the-variants as built
+use Rattle.curve.specs.declared.growth.Previous.{Previous}
+use Rattle.curve.specs.declared.growth.Previous.the-variants as previous
+use Rattle.curve.specs.declared.growth.Carried.{Carried}
+use Rattle.curve.specs.declared.growth.Carried.the-variants as carried
+
+abbrev pub firstWindow : ℕ → ℕ → Bool
+firstWindow points localisation = eqb points (localisation + 1)
+
+-- the sections that are kept: all, but a held last one
+abbrev pub retained : Curve → ℕ
+retained curve = cond (curve .held) (curve .sections - 1) (curve .sections)
+
+abbrev pub seamFrom : ℕ → Found → Carried
+seamFrom count (found.Section s) = carried.Seam (seam.At count («f_next» s))
+seamFrom count found.Illegal = carried.Refused RecordNotLegal
+
+-- where the last section that is kept ended
+unfoldable pub seamAfter : ℕ → List ℕ → List Float → Carried
+seamAfter count tags slots =
+    cond (eqb count 0) (carried.Seam seam.Absent) (seamFrom count (readSection (getD tags (count - 1) 0) (take slotCount (drop (slotCount * (count - 1)) slots))))
+
+-- a previous curve of more sections than a curve can have, or whose slices do not hold them
+abbrev pub beyond : ℕ → ℕ → ℕ → Bool
+beyond sections tags slots = ltb 4095 sections || (ltb tags sections || ltb slots (slotCount * sections))
+
+unfoldable pub seamOf : Curve → List ℕ → List Float → Carried
+unfolding seamAfter
+seamOf curve tags slots =
+    cond (eqb (curve .sections) 0) (carried.Refused NoPreviousCurve)
+    (cond (beyond (curve .sections) (length tags) (length slots)) (carried.Refused RecordNotLegal) (seamAfter (retained curve) tags slots))
+
+abbrev pub seamOfPrevious : Previous → List ℕ → List Float → Carried
+seamOfPrevious previous.Absent tags slots = carried.Refused NoPreviousCurve
+seamOfPrevious (previous.Curve curve) tags slots = seamOf curve tags slots
+
+-- the window comes first: inside it nothing is asked of a previous curve
+abbrev pub carriedAt : ℕ → ℕ → Previous → List ℕ → List Float → Carried
+carriedAt points localisation p tags slots = cond (firstWindow points localisation) (carried.Seam seam.Absent) (seamOfPrevious p tags slots)
+
+-- what is made with the seam that is carried, or the refusal; and what is left in a lent buffer
+abbrev pub grown : Carried → (Seam → Built) → Built
+grown (carried.Seam s) build = build s
+grown (carried.Refused r) build = built.Refused r
+
+abbrev pub grownLeft : {A : Type 0} → Carried → (Seam → List A) → List A → List A
+grownLeft (carried.Seam s) new old = new s
+grownLeft (carried.Refused r) new old = old
+
+-- the last period is held until the table has its last point
+abbrev pub holds : ℕ → ℕ → Bool
+holds points final = not (eqb points final)
