@@ -1,6 +1,7 @@
 //! The file of answers that another program replays. It is the same on every
 //! machine: the generator is seeded and takes exact steps only.
 
+mod curves;
 mod queries;
 pub mod rng;
 mod roots;
@@ -23,4 +24,9 @@ pub fn roots() -> Answers {
 /// Panics if a kind, split or not, could not be made to occur.
 pub fn sections() -> Answers {
     sections::write()
+}
+
+/// The curves: lines `c`, `b`, `t`, `e`, `n` and `a`.
+pub fn curves() -> Answers {
+    curves::write()
 }

@@ -17,8 +17,9 @@ fn main() -> io::Result<ExitCode> {
         [] => vec![answers::roots(), answers::sections()],
         ["roots"] => vec![answers::roots()],
         ["sections"] => vec![answers::sections()],
+        ["curves"] => vec![answers::curves()],
         _ => {
-            eprintln!("answers [roots | sections]");
+            eprintln!("answers [roots | sections | curves]");
             return Ok(ExitCode::FAILURE);
         }
     };
