@@ -8,8 +8,13 @@ use crate::words::MOST;
 fn root(words: &[u64; MOST], state: State) -> State {
     let old = state.seen;
     let subject = state.subject;
+    let kept = state.kept;
     let seen = old.root(roots::agrees(words[0], words[1]));
-    State { seen, subject }
+    State {
+        seen,
+        subject,
+        kept,
+    }
 }
 
 // What a line of this letter and so many words adds.
@@ -22,6 +27,21 @@ fn known(letter: u8, words: &[u64; MOST], count: usize, state: State) -> State {
     }
     if letter == b't' && count == 26 {
         return state.record(words);
+    }
+    if letter == b'c' {
+        return state.table(words, count);
+    }
+    if letter == b'b' && count == 2 {
+        return state.build(words);
+    }
+    if letter == b'e' && count == 3 {
+        return state.tail(words);
+    }
+    if letter == b'n' {
+        return state.nodes(words, count);
+    }
+    if letter == b'a' && count == 5 {
+        return state.curve_query(words);
     }
     if letter == b'x' && count == 3 {
         return state.query(words);

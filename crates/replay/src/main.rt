@@ -1,4 +1,5 @@
 // Replays the original's answers: reads its file from standard input, works each answer out again and counts what differs.
+mod curves;
 mod groups;
 mod lines;
 mod queries;
@@ -6,6 +7,7 @@ mod records;
 mod roots;
 mod sections;
 mod seen;
+mod tables;
 mod words;
 
 ghost use mathlib.Core.Path.{_≡_};
@@ -47,6 +49,11 @@ fn main() {
     print_sections(sections);
     print_count(b"records ", seen.records);
     print_count(b"queries ", seen.queries);
+    print_count(b"builds ", seen.builds);
+    print_count(b"builds refused ", seen.refused);
+    print_count(b"curves ", seen.curves);
+    print_count(b"curve records ", seen.curve_records);
+    print_count(b"curve queries ", seen.curve_queries);
     print_count(b"lines of no known kind ", seen.strange);
     print_count(b"mismatches ", seen.mismatches);
 }

@@ -4,12 +4,15 @@ use record::reading::Found;
 use record::slots::SLOTS;
 use section::section::Section;
 
-fn wide(x: u16) -> u64 {
+pub fn wide(x: u16) -> u64 {
     x as u64
 }
 
 // Whether the slots are those that the line has behind its tag.
-fn same_slots(slots: &[f64; SLOTS], words: &[u64; MOST]) -> bool {
+pub fn same_slots(slots: &[f64], words: &[u64; MOST]) -> bool {
+    if slots.len() < SLOTS {
+        return false;
+    }
     let mut i = 0;
     while i < SLOTS {
         if numbers::to_bits(slots[i]) != words[i + 1] {

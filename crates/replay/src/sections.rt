@@ -43,7 +43,7 @@ fn words_of(kind: u64) -> usize {
 
 // The seven floats from a place, as many as the longest `new` takes.
 fn floats(words: &[u64; MOST], from: usize) -> [f64; 7]
-    requires { ⌜ from + 7 ≤ 26 ⌝ }
+    requires { ⌜ from + 7 ≤ 72 ⌝ }
 {
     [
         numbers::of_bits(words[from]),

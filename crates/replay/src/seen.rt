@@ -10,6 +10,11 @@ pub struct Seen {
     pub sections: [u64; KINDS],
     pub records: u64,
     pub queries: u64,
+    pub builds: u64,
+    pub refused: u64,
+    pub curves: u64,
+    pub curve_records: u64,
+    pub curve_queries: u64,
     pub strange: u64,
     pub mismatches: u64,
 }
@@ -52,6 +57,11 @@ impl Seen {
             sections: [0; KINDS],
             records: 0,
             queries: 0,
+            builds: 0,
+            refused: 0,
+            curves: 0,
+            curve_records: 0,
+            curve_queries: 0,
             strange: 0,
             mismatches: 0,
         }
@@ -83,6 +93,36 @@ impl Seen {
 
     pub fn query(mut self, agrees: bool) -> Self {
         self.queries = more(self.queries);
+        self.judged(agrees)
+    }
+
+    pub fn build(mut self) -> Self {
+        self.builds = more(self.builds);
+        self
+    }
+
+    // What is told of a build: a refusal or a curve.
+    pub fn told(mut self, refused: bool, agrees: bool) -> Self {
+        if refused {
+            self.refused = more(self.refused);
+        } else {
+            self.curves = more(self.curves);
+        }
+        self.judged(agrees)
+    }
+
+    pub fn curve_record(mut self, agrees: bool) -> Self {
+        self.curve_records = more(self.curve_records);
+        self.judged(agrees)
+    }
+
+    // A line about a curve that is counted by another.
+    pub fn curve_line(self, agrees: bool) -> Self {
+        self.judged(agrees)
+    }
+
+    pub fn curve_query(mut self, agrees: bool) -> Self {
+        self.curve_queries = more(self.curve_queries);
         self.judged(agrees)
     }
 

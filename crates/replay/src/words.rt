@@ -2,8 +2,8 @@
 ghost use mathlib.Core.Path.{_≡_};
 ghost use Prim.Native.Nat.{_+_, _≤_, _<_};
 
-// How many words the longest line has.
-pub const MOST: usize = 26;
+// How many words the longest line has: a table of 32 points with a seam.
+pub const MOST: usize = 72;
 
 // A number, and the place after its last digit.
 struct Word {

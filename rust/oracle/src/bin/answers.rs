@@ -14,7 +14,7 @@ fn main() -> io::Result<ExitCode> {
     let wanted: Vec<String> = std::env::args().skip(1).collect();
     let wanted: Vec<&str> = wanted.iter().map(String::as_str).collect();
     let parts: Vec<Answers> = match wanted[..] {
-        [] => vec![answers::roots(), answers::sections()],
+        [] => vec![answers::roots(), answers::sections(), answers::curves()],
         ["roots"] => vec![answers::roots()],
         ["sections"] => vec![answers::sections()],
         ["curves"] => vec![answers::curves()],
