@@ -138,6 +138,9 @@ part-primitive κs a r₁ r₂ s₁ s₂ p q = p ∙ sym q
 pub part-f-next : Unique part.f_next.Kinds.ps part.f_next.Kinds.r part.f_next.Reads.Post
 part-f-next κs a r₁ r₂ s₁ s₂ p q = p ∙ sym q
 
+pub part-alone : Unique part.alone.Kinds.ps part.alone.Kinds.r part.alone.Reads.Post
+part-alone κs a r₁ r₂ s₁ s₂ p q = p ∙ sym q
+
 pub other-value : Unique other.value.Kinds.ps other.value.Kinds.r other.value.Reads.Post
 other-value κs a r₁ r₂ s₁ s₂ p q = p ∙ sym q
 
@@ -146,6 +149,9 @@ other-primitive κs a r₁ r₂ s₁ s₂ p q = p ∙ sym q
 
 pub other-f-next : Unique other.f_next.Kinds.ps other.f_next.Kinds.r other.f_next.Reads.Post
 other-f-next κs a r₁ r₂ s₁ s₂ p q = p ∙ sym q
+
+pub other-alone : Unique other.alone.Kinds.ps other.alone.Kinds.r other.alone.Reads.Post
+other-alone κs a r₁ r₂ s₁ s₂ p q = p ∙ sym q
 
 pub section-value : Unique section.value.Kinds.ps section.value.Kinds.r section.value.Reads.Post
 section-value κs a r₁ r₂ s₁ s₂ p q = p ∙ sym q
