@@ -12,7 +12,7 @@ use Rattle.numbers.specs.Every.{allBelow}
 and-both : {a b : Bool} → a ≡ true → b ≡ true → a && b ≡ true
 and-both p q = rw (p, q)
 
-and-split : (a b : Bool) → a && b ≡ true → (a ≡ true) × (b ≡ true)
+pub and-split : (a b : Bool) → a && b ≡ true → (a ≡ true) × (b ≡ true)
 and-split true b h = (refl, h)
 and-split false b h = (h, never h refl)
 
@@ -31,6 +31,11 @@ all-none f = refl
 pub all-more : (n : ℕ) (f : ℕ → Bool) → allBelow n f ≡ true → f n ≡ true → allBelow (n + 1) f ≡ true
 unfolding allBelow
 all-more n f h e = rw (add-one n, e, h)
+
+pub all-every : (n : ℕ) (f : ℕ → Bool) → ((k : ℕ) → k < n → f k ≡ true) → allBelow n f ≡ true
+unfolding allBelow
+all-every zero f h = refl
+all-every (suc n) f h = and-both (h n (omega arith)) (all-every n f (λ k l. h k (omega arith)))
 
 pub all-at : (n : ℕ) (f : ℕ → Bool) → allBelow n f ≡ true → (k : ℕ) → k < n → f k ≡ true
 unfolding allBelow

@@ -1,13 +1,13 @@
 -- The laws of `overlay`. Every layer that fills a lent buffer cites these.
 use Prim.Native.Nat.{ℕ, zero, suc, _+_, _≤_, _<_}
 use native.Mathlib.Omega.{arith}
-use native.Mathlib.Nat.{add-suc, add-zero, add-assoc, add-comm, eq-or-lt-of-le, le-of-suc-le-suc, le-trans, le-suc}
+use native.Mathlib.Nat.{add-suc, add-zero, add-assoc, add-comm, eq-or-lt-of-le, le-of-suc-le-suc, le-trans, le-suc, le-add-right}
 use native.Mathlib.Numerals.{add-one}
 use mathlib.Core.List.{List}
 use mathlib.Core.Logic.{_⊎_, inl, inr, ⊎-elim}
 use mathlib.Core.Path.{_≡_, refl, sym, ap, _∙_}
 use lib.ListN.{set, length, getD, drop, take, length-set}
-use lib.Seq.{getD-set-same, getD-set-other, set-comm, set-set, drop-set-add}
+use lib.Seq.{getD-set-same, getD-set-other, set-comm, set-set, take-set-le, drop-set-add}
 use Rattle.numbers.specs.Overlay.{overlay}
 
 module _ {A : Type 0} where
@@ -84,3 +84,9 @@ module _ {A : Type 0} where
   unfolding overlay
   drop-overlay a p zero f xs = refl
   drop-overlay a p (suc n) f xs = rw (add-assoc a p n, drop-set-add a (overlay (a + p) n f xs) (p + n) (f n), drop-overlay a p n f xs)
+
+  -- and what lies before it is as it was
+  pub take-overlay : (a n : ℕ) (f : ℕ → A) (xs : List A) → take a (overlay a n f xs) ≡ take a xs
+  unfolding overlay
+  take-overlay a zero f xs = refl
+  take-overlay a (suc n) f xs = take-set-le a (overlay a n f xs) (a + n) (f n) (le-add-right a n) ∙ take-overlay a n f xs

@@ -1,8 +1,8 @@
 -- Which way a test went: a test has one outcome, a definition that goes by a test follows it, and of two numbers one is below or at most the other.
 use Prim.Native.Nat.{ℕ, _≤_, _<_}
-use mathlib.Core.Bool.{Bool, true, false, cond}
+use mathlib.Core.Bool.{Bool, true, false, not, cond, _||_}
 use mathlib.Core.Logic.{_⊎_, inl, inr}
-use mathlib.Core.Path.{_≡_, refl, sym, subst, _∙_}
+use mathlib.Core.Path.{_≡_, refl, sym, ap, subst, _∙_}
 use lib.Dec.{T, ltb}
 use borrow.Author.Tests.{ltb-true, ltb-false}
 
@@ -15,3 +15,23 @@ lt-or-le a b = by (ltb a b) (ltb-true a b) (ltb-false a b)
     by : (t : Bool) → (t ≡ true → a < b) → (t ≡ false → b ≤ a) → (a < b) ⊎ (b ≤ a)
     by true l g = inl (l refl)
     by false l g = inr (g refl)
+
+-- a call's answer, and what a test made of it, as it stands or turned round
+pub told : {a b t : Bool} → a ≡ b → a ≡ t → b ≡ t
+told e h = sym e ∙ h
+
+pub asked-not : {a b t : Bool} → a ≡ b → not a ≡ t → not b ≡ t
+asked-not e h = sym (ap not e) ∙ h
+
+pub or-none : (a b : Bool) → a || b ≡ false → (a ≡ false) × (b ≡ false)
+or-none true b h = (h, never refl h)
+or-none false b h = (refl, h)
+
+-- a definition that goes by a test, where the test is known
+pub taken : {A : Type 0} (b : Bool) (r x y : A) → b ≡ true → r ≡ x → r ≡ cond b x y
+taken b r x y h e = rw h e
+
+pub left : {A : Type 0} (b : Bool) (r x y : A) → b ≡ false → r ≡ y → r ≡ cond b x y
+left b r x y h e = rw h e
+
+pub ruleset ways = (taken, left)

@@ -1,7 +1,7 @@
 -- Laws of `first`, for every check that is told in an order.
 use mathlib.Core.Bool.{Bool, true, false, cond}
 use mathlib.Core.List.{List, [], _∷_, _++_}
-use mathlib.Core.Path.{_≡_, refl, ap}
+use mathlib.Core.Path.{_≡_, refl, sym, ap, _∙_}
 use Rattle.numbers.proofs.Ways.{never}
 use Rattle.record.specs.Refusal.{Test, _⇒_, first}
 use Rattle.record.specs.declared.refusal.Refusal.{Refusal}
@@ -25,6 +25,11 @@ pub passed : (ts : List Test) → first ts ≡ Accepted → Passed ts
 passed [] h = tt
 passed (t ∷ ts) h = let p = head (t .holds) (t .refusal) (first ts) h in (p .0, passed ts (p .1))
 
+-- and what passes every test is accepted
+pub accepted : (ts : List Test) → Passed ts → first ts ≡ Accepted
+accepted [] h = refl
+accepted (t ∷ ts) h = rw (h .0) (accepted ts (h .1))
+
 -- one check after another
 abbrev pub andThen : Verdict → Verdict → Verdict
 andThen Accepted v = v
@@ -37,3 +42,10 @@ cond-then false r v w = refl
 pub first-append : (ts us : List Test) → first (ts ++ us) ≡ andThen (first ts) (first us)
 first-append [] us = refl
 first-append (t ∷ ts) us = rw (first-append ts us) (cond-then (t .holds) (t .refusal) (first ts) (first us))
+
+-- the second speaks only where the first accepts
+pub stops : (v : Verdict) (r : Refusal) (ts us : List Test) → v ≡ first ts → v ≡ Refused r → v ≡ first (ts ++ us)
+stops v r ts us e f = f ∙ ap (λ (w : Verdict). andThen w (first us)) (sym f ∙ e) ∙ sym (first-append ts us)
+
+pub goes-on : (v w : Verdict) (ts us : List Test) → v ≡ first ts → v ≡ Accepted → w ≡ first us → w ≡ first (ts ++ us)
+goes-on v w ts us e f g = g ∙ ap (λ (u : Verdict). andThen u (first us)) (sym f ∙ e) ∙ sym (first-append ts us)

@@ -3,9 +3,9 @@ use mathlib.Core.Bool.{Bool, true, false}
 use mathlib.Core.Path.{_≡_, refl}
 use lib.Ieee.{Float}
 use Rattle.section.specs.Combination as combination
-use Rattle.section.specs.declared.quadratic.Quadratic.{Quadratic}
-use Rattle.section.specs.declared.quadratic_min.QuadraticMin.{QuadraticMin}
-use Rattle.section.specs.declared.convex_monotone4_min.ConvexMonotone4Min.{ConvexMonotone4Min}
+use Rattle.quadratic.specs.declared.quadratic.Quadratic.{Quadratic}
+use Rattle.quadratic.specs.declared.quadratic_min.QuadraticMin.{QuadraticMin}
+use Rattle.convex.specs.declared.convex_monotone4_min.ConvexMonotone4Min.{ConvexMonotone4Min}
 use Rattle.section.specs.declared.quadratic_part.QuadraticPart.{QuadraticPart}
 use Rattle.section.specs.declared.quadratic_part.QuadraticPart.the-variants as quadratic
 use Rattle.section.specs.declared.convex_monotone_part.ConvexMonotonePart.{ConvexMonotonePart}

@@ -3,7 +3,7 @@ use Prim.Native.Nat.{ℕ}
 use mathlib.Core.Bool.{Bool, cond}
 use mathlib.Core.List.{List, [], _∷_}
 use Rattle.record.specs.declared.refusal.Refusal.{Refusal}
-use Rattle.record.specs.declared.refusal.Refusal.the-variants.{LengthsDiffer, MonotonicityOutside, QuadraticityOutside, TooFewPoints, KnotNotFinite, AverageNotFinite, KnotsNotRising, SeamTooLong, NoPreviousCurve, TooManyPoints, BufferTooShort, QueryNotANumber, QueryOutside, DerivativeAsked, RecordNotLegal, NoGivenNode, OrderMalformed}
+use Rattle.record.specs.declared.refusal.Refusal.the-variants.{LengthsDiffer, MonotonicityOutside, QuadraticityOutside, TooFewPoints, KnotNotFinite, AverageNotFinite, KnotsNotRising, SeamTooLong, NoPreviousCurve, TooManyPoints, BufferTooShort, QueryNotANumber, QueryOutside, DerivativeAsked, RecordNotLegal, NoGivenNode, OrderMalformed, CutsNotInner}
 use Rattle.record.specs.declared.refusal.Verdict.{Verdict}
 use Rattle.record.specs.declared.refusal.Verdict.the-variants.{Accepted, Refused}
 
@@ -25,6 +25,7 @@ number DerivativeAsked = 14
 number RecordNotLegal = 15
 number NoGivenNode = 16
 number OrderMalformed = 17
+number CutsNotInner = 28
 
 -- A check in its order: the first test that holds names the refusal.
 pub record Test : Type 0 where

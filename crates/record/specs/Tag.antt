@@ -2,8 +2,8 @@
 use Prim.Native.Nat.{ℕ, _+_, _*_, _/_, _%_, _^_}
 use mathlib.Core.Bool.{Bool, true, false, not, _&&_, _||_}
 use lib.Dec.{leb, eqb}
-use Rattle.section.specs.declared.convex_monotone4_min.ConvexMonotone4Min.{ConvexMonotone4Min}
-use Rattle.section.specs.declared.quadratic_min.QuadraticMin.{QuadraticMin}
+use Rattle.convex.specs.declared.convex_monotone4_min.ConvexMonotone4Min.{ConvexMonotone4Min}
+use Rattle.quadratic.specs.declared.quadratic_min.QuadraticMin.{QuadraticMin}
 use Rattle.section.specs.declared.quadratic_part.QuadraticPart.{QuadraticPart}
 use Rattle.section.specs.declared.quadratic_part.QuadraticPart.the-variants as quadratic
 use Rattle.section.specs.declared.convex_monotone_part.ConvexMonotonePart.{ConvexMonotonePart}

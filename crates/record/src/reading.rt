@@ -1,15 +1,15 @@
 // A section back from its tag and its slots.
 use crate::slots::SLOTS;
+use convex::convex_monotone2::ConvexMonotone2;
+use convex::convex_monotone3::ConvexMonotone3;
+use convex::convex_monotone4::ConvexMonotone4;
+use convex::convex_monotone4_min::ConvexMonotone4Min;
+use quadratic::quadratic::Quadratic;
+use quadratic::quadratic_min::QuadraticMin;
 use section::combination::Combination;
 use section::constant_grad::ConstantGrad;
 use section::convex_monotone_part::ConvexMonotonePart;
-use section::convex_monotone2::ConvexMonotone2;
-use section::convex_monotone3::ConvexMonotone3;
-use section::convex_monotone4::ConvexMonotone4;
-use section::convex_monotone4_min::ConvexMonotone4Min;
 use section::everywhere_constant::EverywhereConstant;
-use section::quadratic::Quadratic;
-use section::quadratic_min::QuadraticMin;
 use section::quadratic_part::QuadraticPart;
 use section::section::Section;
 ghost use mathlib.Core.Path.{_≡_};

@@ -1,4 +1,4 @@
-// Every refusal of document 01, in words, and its number.
+// Every refusal in words, and its number: 1 to 17 are document 01's, and 28 is the library's own.
 ghost use mathlib.Core.Path.{_≡_};
 ghost use Rattle.record.specs.Refusal.{number};
 
@@ -20,6 +20,7 @@ pub enum Refusal {
     RecordNotLegal,
     NoGivenNode,
     OrderMalformed,
+    CutsNotInner,
 }
 
 impl Refusal {
@@ -44,6 +45,7 @@ impl Refusal {
             Refusal::RecordNotLegal => 15,
             Refusal::NoGivenNode => 16,
             Refusal::OrderMalformed => 17,
+            Refusal::CutsNotInner => 28,
         }
     }
 }
