@@ -6,8 +6,8 @@ use Rattle.numbers.specs.Words.{_⊖_, nought, one}
 use Rattle.section.specs.declared.section.Section.{Section}
 use Rattle.section.specs.declared.section.Section.the-variants as section
 use Rattle.section.specs.declared.constant_grad.ConstantGrad.{ConstantGrad}
-use Rattle.section.specs.declared.convex_monotone2.ConvexMonotone2.{ConvexMonotone2}
-use Rattle.section.specs.declared.convex_monotone3.ConvexMonotone3.{ConvexMonotone3}
+use Rattle.convex.specs.declared.convex_monotone2.ConvexMonotone2.{ConvexMonotone2}
+use Rattle.convex.specs.declared.convex_monotone3.ConvexMonotone3.{ConvexMonotone3}
 use Rattle.section.specs.declared.combination.Combination.{Combination}
 use Rattle.section.specs.declared.quadratic_part.QuadraticPart.{QuadraticPart}
 use Rattle.section.specs.declared.quadratic_part.QuadraticPart.the-variants as part

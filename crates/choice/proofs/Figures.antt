@@ -7,11 +7,11 @@ use Rattle.section.specs.declared.section.Section.{Section}
 use Rattle.section.specs.declared.section.Section.the-variants as section
 use Rattle.section.specs.declared.quadratic_part.QuadraticPart.the-variants as part
 use Rattle.section.specs.declared.convex_monotone_part.ConvexMonotonePart.the-variants as other
-use Rattle.section.specs.ConvexMonotone2 as cm2
-use Rattle.section.specs.ConvexMonotone4 as cm4
-use Rattle.section.specs.ConvexMonotone4Min as cm4min
-use Rattle.section.specs.Quadratic as quadratic
-use Rattle.section.specs.QuadraticMin as quadmin
+use Rattle.convex.specs.ConvexMonotone2 as cm2
+use Rattle.convex.specs.ConvexMonotone4 as cm4
+use Rattle.convex.specs.ConvexMonotone4Min as cm4min
+use Rattle.quadratic.specs.Quadratic as quadratic
+use Rattle.quadratic.specs.QuadraticMin as quadmin
 use Rattle.section.specs.Combination as combination
 use Rattle.table.specs.Method as method
 use Rattle.choice.specs.declared.period.Period.{Period}

@@ -4,10 +4,10 @@ use lib.Ieee.{Float, lt}
 use Rattle.numbers.specs.Words.{_⊕_, _⊖_, _⊗_, _⊘_, one, two, three}
 use Rattle.section.specs.declared.convex_monotone_part.ConvexMonotonePart.{ConvexMonotonePart}
 use Rattle.section.specs.declared.convex_monotone_part.ConvexMonotonePart.the-variants as part
-use Rattle.section.specs.ConvexMonotone2 as cm2
-use Rattle.section.specs.ConvexMonotone3 as cm3
-use Rattle.section.specs.ConvexMonotone4 as cm4
-use Rattle.section.specs.ConvexMonotone4Min as cm4min
+use Rattle.convex.specs.ConvexMonotone2 as cm2
+use Rattle.convex.specs.ConvexMonotone3 as cm3
+use Rattle.convex.specs.ConvexMonotone4 as cm4
+use Rattle.convex.specs.ConvexMonotone4Min as cm4min
 use Rattle.table.specs.declared.method.ConvexMonotone.{ConvexMonotone}
 use Rattle.choice.specs.declared.period.Period.{Period}
 use Rattle.choice.specs.Regions.{inSecond, inThird}

@@ -3,8 +3,8 @@ use mathlib.Core.Bool.{Bool, cond, _&&_}
 use lib.Ieee.{Float}
 use Rattle.section.specs.declared.quadratic_part.QuadraticPart.{QuadraticPart}
 use Rattle.section.specs.declared.quadratic_part.QuadraticPart.the-variants as part
-use Rattle.section.specs.Quadratic as quadratic
-use Rattle.section.specs.QuadraticMin as quadmin
+use Rattle.quadratic.specs.Quadratic as quadratic
+use Rattle.quadratic.specs.QuadraticMin as quadmin
 use Rattle.table.specs.declared.method.ConvexMonotone.{ConvexMonotone}
 use Rattle.choice.specs.declared.period.Period.{Period}
 use Rattle.choice.specs.Regions.{minFits}

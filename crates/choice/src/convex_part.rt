@@ -2,11 +2,11 @@
 use crate::period::Period;
 use crate::regions::in_second;
 use crate::regions::in_third;
+use convex::convex_monotone2::ConvexMonotone2;
+use convex::convex_monotone3::ConvexMonotone3;
+use convex::convex_monotone4::ConvexMonotone4;
+use convex::convex_monotone4_min::ConvexMonotone4Min;
 use section::convex_monotone_part::ConvexMonotonePart;
-use section::convex_monotone2::ConvexMonotone2;
-use section::convex_monotone3::ConvexMonotone3;
-use section::convex_monotone4::ConvexMonotone4;
-use section::convex_monotone4_min::ConvexMonotone4Min;
 use table::method::ConvexMonotone;
 ghost use mathlib.Core.Path.{_≡_};
 ghost use Rattle.choice.specs.ConvexPart.{b2, b3, atMost, atLeast, fourth, second, third, clamped, convexPart};

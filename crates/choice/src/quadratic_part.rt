@@ -1,8 +1,8 @@
 // The quadratic part of a period: the parabola through both nodes that keeps the average.
 use crate::period::Period;
 use crate::regions::min_fits;
-use section::quadratic::Quadratic;
-use section::quadratic_min::QuadraticMin;
+use quadratic::quadratic::Quadratic;
+use quadratic::quadratic_min::QuadraticMin;
 use section::quadratic_part::QuadraticPart;
 use table::method::ConvexMonotone;
 ghost use mathlib.Core.Path.{_≡_};

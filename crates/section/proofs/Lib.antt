@@ -1,4 +1,2 @@
-pub mod Ways
 pub mod Unique
-pub mod Figures
 pub mod Laws

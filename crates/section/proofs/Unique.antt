@@ -6,12 +6,6 @@ use borrow.Fn.Kinds as K
 use denote.Triple.Clauses.{AtExit}
 use Rattle.section.proofs.everywhere_constant.EverywhereConstant as constant
 use Rattle.section.proofs.constant_grad.ConstantGrad as grad
-use Rattle.section.proofs.convex_monotone2.ConvexMonotone2 as cm2
-use Rattle.section.proofs.convex_monotone3.ConvexMonotone3 as cm3
-use Rattle.section.proofs.convex_monotone4.ConvexMonotone4 as cm4
-use Rattle.section.proofs.convex_monotone4_min.ConvexMonotone4Min as cm4min
-use Rattle.section.proofs.quadratic.Quadratic as quadratic
-use Rattle.section.proofs.quadratic_min.QuadraticMin as quadmin
 use Rattle.section.proofs.combination.Combination as combination
 use Rattle.section.proofs.quadratic_part.QuadraticPart as part
 use Rattle.section.proofs.convex_monotone_part.ConvexMonotonePart as other
@@ -44,78 +38,6 @@ grad-primitive κs a r₁ r₂ s₁ s₂ p q = p ∙ sym q
 
 pub grad-f-next : Unique grad.f_next.Kinds.ps grad.f_next.Kinds.r grad.f_next.Reads.Post
 grad-f-next κs a r₁ r₂ s₁ s₂ p q = p ∙ sym q
-
-pub cm2-new : Unique cm2.new.Kinds.ps cm2.new.Kinds.r cm2.new.Reads.Post
-cm2-new κs a r₁ r₂ s₁ s₂ p q = p ∙ sym q
-
-pub cm2-value : Unique cm2.value.Kinds.ps cm2.value.Kinds.r cm2.value.Reads.Post
-cm2-value κs a r₁ r₂ s₁ s₂ p q = p ∙ sym q
-
-pub cm2-primitive : Unique cm2.primitive.Kinds.ps cm2.primitive.Kinds.r cm2.primitive.Reads.Post
-cm2-primitive κs a r₁ r₂ s₁ s₂ p q = p ∙ sym q
-
-pub cm2-f-next : Unique cm2.f_next.Kinds.ps cm2.f_next.Kinds.r cm2.f_next.Reads.Post
-cm2-f-next κs a r₁ r₂ s₁ s₂ p q = p ∙ sym q
-
-pub cm3-new : Unique cm3.new.Kinds.ps cm3.new.Kinds.r cm3.new.Reads.Post
-cm3-new κs a r₁ r₂ s₁ s₂ p q = p ∙ sym q
-
-pub cm3-value : Unique cm3.value.Kinds.ps cm3.value.Kinds.r cm3.value.Reads.Post
-cm3-value κs a r₁ r₂ s₁ s₂ p q = p ∙ sym q
-
-pub cm3-primitive : Unique cm3.primitive.Kinds.ps cm3.primitive.Kinds.r cm3.primitive.Reads.Post
-cm3-primitive κs a r₁ r₂ s₁ s₂ p q = p ∙ sym q
-
-pub cm3-f-next : Unique cm3.f_next.Kinds.ps cm3.f_next.Kinds.r cm3.f_next.Reads.Post
-cm3-f-next κs a r₁ r₂ s₁ s₂ p q = p ∙ sym q
-
-pub cm4-new : Unique cm4.new.Kinds.ps cm4.new.Kinds.r cm4.new.Reads.Post
-cm4-new κs a r₁ r₂ s₁ s₂ p q = p ∙ sym q
-
-pub cm4-value : Unique cm4.value.Kinds.ps cm4.value.Kinds.r cm4.value.Reads.Post
-cm4-value κs a r₁ r₂ s₁ s₂ p q = p ∙ sym q
-
-pub cm4-primitive : Unique cm4.primitive.Kinds.ps cm4.primitive.Kinds.r cm4.primitive.Reads.Post
-cm4-primitive κs a r₁ r₂ s₁ s₂ p q = p ∙ sym q
-
-pub cm4-f-next : Unique cm4.f_next.Kinds.ps cm4.f_next.Kinds.r cm4.f_next.Reads.Post
-cm4-f-next κs a r₁ r₂ s₁ s₂ p q = p ∙ sym q
-
-pub cm4min-new : Unique cm4min.new.Kinds.ps cm4min.new.Kinds.r cm4min.new.Reads.Post
-cm4min-new κs a r₁ r₂ s₁ s₂ p q = p ∙ sym q
-
-pub cm4min-value : Unique cm4min.value.Kinds.ps cm4min.value.Kinds.r cm4min.value.Reads.Post
-cm4min-value κs a r₁ r₂ s₁ s₂ p q = p ∙ sym q
-
-pub cm4min-primitive : Unique cm4min.primitive.Kinds.ps cm4min.primitive.Kinds.r cm4min.primitive.Reads.Post
-cm4min-primitive κs a r₁ r₂ s₁ s₂ p q = p ∙ sym q
-
-pub cm4min-f-next : Unique cm4min.f_next.Kinds.ps cm4min.f_next.Kinds.r cm4min.f_next.Reads.Post
-cm4min-f-next κs a r₁ r₂ s₁ s₂ p q = p ∙ sym q
-
-pub quadratic-new : Unique quadratic.new.Kinds.ps quadratic.new.Kinds.r quadratic.new.Reads.Post
-quadratic-new κs a r₁ r₂ s₁ s₂ p q = p ∙ sym q
-
-pub quadratic-value : Unique quadratic.value.Kinds.ps quadratic.value.Kinds.r quadratic.value.Reads.Post
-quadratic-value κs a r₁ r₂ s₁ s₂ p q = p ∙ sym q
-
-pub quadratic-primitive : Unique quadratic.primitive.Kinds.ps quadratic.primitive.Kinds.r quadratic.primitive.Reads.Post
-quadratic-primitive κs a r₁ r₂ s₁ s₂ p q = p ∙ sym q
-
-pub quadratic-f-next : Unique quadratic.f_next.Kinds.ps quadratic.f_next.Kinds.r quadratic.f_next.Reads.Post
-quadratic-f-next κs a r₁ r₂ s₁ s₂ p q = p ∙ sym q
-
-pub quadmin-new : Unique quadmin.new.Kinds.ps quadmin.new.Kinds.r quadmin.new.Reads.Post
-quadmin-new κs a r₁ r₂ s₁ s₂ p q = p ∙ sym q
-
-pub quadmin-value : Unique quadmin.value.Kinds.ps quadmin.value.Kinds.r quadmin.value.Reads.Post
-quadmin-value κs a r₁ r₂ s₁ s₂ p q = p ∙ sym q
-
-pub quadmin-primitive : Unique quadmin.primitive.Kinds.ps quadmin.primitive.Kinds.r quadmin.primitive.Reads.Post
-quadmin-primitive κs a r₁ r₂ s₁ s₂ p q = p ∙ sym q
-
-pub quadmin-f-next : Unique quadmin.f_next.Kinds.ps quadmin.f_next.Kinds.r quadmin.f_next.Reads.Post
-quadmin-f-next κs a r₁ r₂ s₁ s₂ p q = p ∙ sym q
 
 pub combination-new : Unique combination.new.Kinds.ps combination.new.Kinds.r combination.new.Reads.Post
 combination-new κs a r₁ r₂ s₁ s₂ p q = p ∙ sym q

@@ -4,10 +4,10 @@ use Rattle.section.specs.declared.convex_monotone_part.ConvexMonotonePar
 use Rattle.section.specs.declared.convex_monotone_part.ConvexMonotonePart.the-variants.{ConvexMonotone2, ConvexMonotone3, ConvexMonotone4, ConvexMonotone4Min}
 use Rattle.section.specs.declared.section.Section.{Section}
 use Rattle.section.specs.declared.section.Section.the-variants as section
-use Rattle.section.specs.ConvexMonotone2 as cm2
-use Rattle.section.specs.ConvexMonotone3 as cm3
-use Rattle.section.specs.ConvexMonotone4 as cm4
-use Rattle.section.specs.ConvexMonotone4Min as cm4min
+use Rattle.convex.specs.ConvexMonotone2 as cm2
+use Rattle.convex.specs.ConvexMonotone3 as cm3
+use Rattle.convex.specs.ConvexMonotone4 as cm4
+use Rattle.convex.specs.ConvexMonotone4Min as cm4min
 
 unfoldable pub value : ConvexMonotonePart → Float → Float
 value (ConvexMonotone2 s) x = cm2.value s x

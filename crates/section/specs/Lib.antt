@@ -1,12 +1,5 @@
 pub mod EverywhereConstant
 pub mod ConstantGrad
-pub mod ConvexMonotone2
-pub mod ConvexMonotone3
-pub mod ConvexMonotone4
-pub mod ConvexMonotone4Min
-pub mod Parabola
-pub mod Quadratic
-pub mod QuadraticMin
 pub mod QuadraticPart
 pub mod ConvexMonotonePart
 pub mod Combination

@@ -4,8 +4,8 @@ use Rattle.section.specs.declared.quadratic_part.QuadraticPart.{Quadrati
 use Rattle.section.specs.declared.quadratic_part.QuadraticPart.the-variants.{Quadratic, QuadraticMin}
 use Rattle.section.specs.declared.section.Section.{Section}
 use Rattle.section.specs.declared.section.Section.the-variants as section
-use Rattle.section.specs.Quadratic as quadratic
-use Rattle.section.specs.QuadraticMin as quadmin
+use Rattle.quadratic.specs.Quadratic as quadratic
+use Rattle.quadratic.specs.QuadraticMin as quadmin
 
 unfoldable pub value : QuadraticPart → Float → Float
 value (Quadratic s) x = quadratic.value s x

@@ -4,12 +4,12 @@ use Rattle.section.specs.declared.section.Section.{Section}
 use Rattle.section.specs.declared.section.Section.the-variants.{EverywhereConstant, ConstantGrad, ConvexMonotone2, ConvexMonotone3, ConvexMonotone4, ConvexMonotone4Min, Quadratic, QuadraticMin, Combination}
 use Rattle.section.specs.EverywhereConstant as constant
 use Rattle.section.specs.ConstantGrad as grad
-use Rattle.section.specs.ConvexMonotone2 as cm2
-use Rattle.section.specs.ConvexMonotone3 as cm3
-use Rattle.section.specs.ConvexMonotone4 as cm4
-use Rattle.section.specs.ConvexMonotone4Min as cm4min
-use Rattle.section.specs.Quadratic as quadratic
-use Rattle.section.specs.QuadraticMin as quadmin
+use Rattle.convex.specs.ConvexMonotone2 as cm2
+use Rattle.convex.specs.ConvexMonotone3 as cm3
+use Rattle.convex.specs.ConvexMonotone4 as cm4
+use Rattle.convex.specs.ConvexMonotone4Min as cm4min
+use Rattle.quadratic.specs.Quadratic as quadratic
+use Rattle.quadratic.specs.QuadraticMin as quadmin
 use Rattle.section.specs.Combination as combination
 
 unfoldable pub value : Section → Float → Float

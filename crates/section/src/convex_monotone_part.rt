@@ -1,9 +1,9 @@
 // The other part of a combination.
-use crate::convex_monotone2::ConvexMonotone2;
-use crate::convex_monotone3::ConvexMonotone3;
-use crate::convex_monotone4::ConvexMonotone4;
-use crate::convex_monotone4_min::ConvexMonotone4Min;
 use crate::section::Section;
+use convex::convex_monotone2::ConvexMonotone2;
+use convex::convex_monotone3::ConvexMonotone3;
+use convex::convex_monotone4::ConvexMonotone4;
+use convex::convex_monotone4_min::ConvexMonotone4Min;
 ghost use mathlib.Core.Path.{_≡_};
 ghost use Rattle.section.specs.ConvexMonotonePart.{value, primitive, «f_next», alone};
 

@@ -1,7 +1,7 @@
 // The quadratic part of a combination.
-use crate::quadratic::Quadratic;
-use crate::quadratic_min::QuadraticMin;
 use crate::section::Section;
+use quadratic::quadratic::Quadratic;
+use quadratic::quadratic_min::QuadraticMin;
 ghost use mathlib.Core.Path.{_≡_};
 ghost use Rattle.section.specs.QuadraticPart.{value, primitive, «f_next», alone};
 

@@ -1,13 +1,13 @@
 // One section of a curve: one choice among the nine kinds.
 use crate::combination::Combination;
 use crate::constant_grad::ConstantGrad;
-use crate::convex_monotone2::ConvexMonotone2;
-use crate::convex_monotone3::ConvexMonotone3;
-use crate::convex_monotone4::ConvexMonotone4;
-use crate::convex_monotone4_min::ConvexMonotone4Min;
 use crate::everywhere_constant::EverywhereConstant;
-use crate::quadratic::Quadratic;
-use crate::quadratic_min::QuadraticMin;
+use convex::convex_monotone2::ConvexMonotone2;
+use convex::convex_monotone3::ConvexMonotone3;
+use convex::convex_monotone4::ConvexMonotone4;
+use convex::convex_monotone4_min::ConvexMonotone4Min;
+use quadratic::quadratic::Quadratic;
+use quadratic::quadratic_min::QuadraticMin;
 ghost use mathlib.Core.Path.{_≡_};
 ghost use Rattle.section.specs.Section.{value, primitive, «f_next»};
 

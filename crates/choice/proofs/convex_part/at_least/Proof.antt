@@ -1,6 +1,6 @@
 -- `at_least` meets its contract: each return by the test that led to it.
 use Rattle.choice.specs.ConvexPart.{atLeast}
-use Rattle.section.proofs.Ways.{ways}
+use Rattle.numbers.proofs.Ways.{ways}
 use Rattle.choice.proofs.convex_part.at_least.Statement.{statement}
 use Rattle.choice.proofs.convex_part.at_least.Tie as tie
 

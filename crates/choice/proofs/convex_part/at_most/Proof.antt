@@ -1,6 +1,6 @@
 -- `at_most` meets its contract: each return by the test that led to it.
 use Rattle.choice.specs.ConvexPart.{atMost}
-use Rattle.section.proofs.Ways.{ways}
+use Rattle.numbers.proofs.Ways.{ways}
 use Rattle.choice.proofs.convex_part.at_most.Statement.{statement}
 use Rattle.choice.proofs.convex_part.at_most.Tie as tie
 

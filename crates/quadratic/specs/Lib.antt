@@ -1,0 +1,3 @@
+pub mod Parabola
+pub mod Quadratic
+pub mod QuadraticMin

@@ -1,0 +1,106 @@
+-- 000, QuadraticMinHelper
+use mathlib.Core.Bool.{Bool, true, false, cond, _&&_}
+use lib.Ieee.{Float, le, lt, neg}
+use Rattle.numbers.specs.Words.{_⊕_, _⊖_, _⊗_, _⊘_, nought, one, two, three, four, twentyFour, thirtySix}
+use Rattle.root.specs.Root.{root}
+use Rattle.quadratic.specs.Parabola.{«a_of», «b_of», under}
+use Rattle.quadratic.specs.declared.quadratic_min.QuadraticMin.{QuadraticMin}
+
+module _ («f_prev» «f_next» : Float) where
+  abbrev pub «b_av» : Float
+  «b_av» = neg twentyFour ⊗ («f_prev» ⊕ «f_next»)
+
+  abbrev pub «d_av» : Float
+  «d_av» =
+      let «c_av» = four ⊗ («f_prev» ⊗ «f_prev» ⊕ «f_prev» ⊗ «f_next» ⊕ «f_next» ⊗ «f_next») in
+      «b_av» ⊗ «b_av» ⊖ four ⊗ thirtySix ⊗ «c_av»
+
+  -- the average at which a parabola with these ends just touches zero
+  abbrev pub «av_root» : Float
+  «av_root» = (neg «b_av» ⊖ root «d_av») ⊘ (two ⊗ thirtySix)
+
+  -- whether one with this average falls below zero
+  unfoldable pub splits : Float → Bool
+  splits «f_average» =
+      let a = «a_of» «f_prev» «f_next» «f_average» in
+      let b = «b_of» «f_prev» «f_next» «f_average» in
+      lt nought (b ⊗ b ⊖ four ⊗ a ⊗ «f_prev») && le nought «d_av»
+
+module _ («x_prev» «x_next» «f_prev» «f_next» «f_average» «prev_primitive» : Float) where
+  abbrev pub unsplit : QuadraticMin
+  unsplit = record {
+    «split_region» = false;
+    x1 = «x_prev»;
+    x2 = nought;
+    x3 = nought;
+    x4 = «x_next»;
+    a = «a_of» «f_prev» «f_next» «f_average»;
+    b = «b_of» «f_prev» «f_next» «f_average»;
+    c = «f_prev»;
+    primitive1 = «prev_primitive»;
+    primitive2 = nought;
+    «f_next» = «f_next»;
+    «x_scaling» = «x_next» ⊖ «x_prev»;
+    «x_ratio» = one;
+  }
+
+  -- the parabola that touches zero at x_root, squeezed by x_ratio
+  unfoldable pub split : Float → QuadraticMin
+  split «av_root» =
+      let «x_ratio» = «f_average» ⊘ «av_root» in
+      let «x_scaling» = («x_next» ⊖ «x_prev») ⊗ «x_ratio» in
+      let a = «a_of» «f_prev» «f_next» «av_root» in
+      let b = «b_of» «f_prev» «f_next» «av_root» in
+      let «x_root» = neg b ⊘ (two ⊗ a) in
+      record {
+        «split_region» = true;
+        x1 = «x_prev»;
+        x2 = «x_prev» ⊕ «x_ratio» ⊗ («x_next» ⊖ «x_prev») ⊗ «x_root»;
+        x3 = «x_next» ⊖ «x_ratio» ⊗ («x_next» ⊖ «x_prev») ⊗ (one ⊖ «x_root»);
+        x4 = «x_next»;
+        a = a;
+        b = b;
+        c = «f_prev»;
+        primitive1 = «prev_primitive»;
+        primitive2 = under «prev_primitive» «x_scaling» a b «f_prev» «x_root»;
+        «f_next» = «f_next»;
+        «x_scaling» = «x_scaling»;
+        «x_ratio» = «x_ratio»;
+      }
+
+  unfoldable pub new : QuadraticMin
+  new = cond (splits «f_prev» «f_next» «f_average») (split («av_root» «f_prev» «f_next»)) unsplit
+
+module _ (s : QuadraticMin) where
+  open QuadraticMin s using («split_region», x1, x2, x3, x4, a, b, c, primitive1, primitive2, «x_scaling», «x_ratio»)
+
+  abbrev pub «x_val» : Float → Float
+  «x_val» x = (x ⊖ x1) ⊘ (x4 ⊖ x1)
+
+  -- the place in the parabola, before and after the zero stretch
+  abbrev pub before : Float → Float
+  before x = «x_val» x ⊘ «x_ratio»
+
+  abbrev pub after : Float → Float
+  after x = one ⊖ (one ⊖ «x_val» x) ⊘ «x_ratio»
+
+  abbrev pub «value_at» : Float → Float
+  «value_at» v = c ⊕ b ⊗ v ⊕ a ⊗ v ⊗ v
+
+  abbrev pub «primitive_at» : Float → Float
+  «primitive_at» v = under primitive1 «x_scaling» a b c v
+
+  unfoldable pub value : Float → Float
+  value x =
+      cond «split_region»
+      (cond (le x x2) («value_at» (before x)) (cond (lt x x3) nought («value_at» (after x))))
+      («value_at» («x_val» x))
+
+  unfoldable pub primitive : Float → Float
+  primitive x =
+      cond «split_region»
+      (cond (lt x x2) («primitive_at» (before x)) (cond (lt x x3) primitive2 («primitive_at» (after x))))
+      («primitive_at» («x_val» x))
+
+abbrev pub «f_next» : QuadraticMin → Float
+«f_next» s = s .«f_next»

@@ -1,0 +1,195 @@
+// The parabola kept from falling below zero: where it would, it is squeezed towards the ends, with zero between x2 and x3.
+use crate::parabola::a_of;
+use crate::parabola::b_of;
+use crate::parabola::under;
+ghost use mathlib.Core.Path.{_≡_};
+ghost use Rattle.quadratic.specs.QuadraticMin.{new, value, primitive, «f_next», «b_av», «d_av», «av_root», splits, split, unsplit, «value_at», «primitive_at»};
+
+pub struct QuadraticMin {
+    pub split_region: bool,
+    pub x1: f64,
+    pub x2: f64,
+    pub x3: f64,
+    pub x4: f64,
+    pub a: f64,
+    pub b: f64,
+    pub c: f64,
+    pub primitive1: f64,
+    pub primitive2: f64,
+    pub f_next: f64,
+    pub x_scaling: f64,
+    pub x_ratio: f64,
+}
+
+// The discriminant of a parabola with these ends is a quadratic in its average: 36.0, b_av and the coefficient in d_av, which is the
+// discriminant of that one.
+fn b_av(f_prev: f64, f_next: f64) -> f64
+    ensures { λ r. ⌜ r ≡ «b_av» «f_prev» «f_next» ⌝ }
+{
+    -24.0 * (f_prev + f_next)
+}
+
+fn d_av(f_prev: f64, f_next: f64) -> f64
+    ensures { λ r. ⌜ r ≡ «d_av» «f_prev» «f_next» ⌝ }
+{
+    let b = b_av(f_prev, f_next);
+    let c_av = 4.0 * (f_prev * f_prev + f_prev * f_next + f_next * f_next);
+    b * b - 4.0 * 36.0 * c_av
+}
+
+// The average at which a parabola with these ends just touches zero.
+fn av_root(f_prev: f64, f_next: f64) -> f64
+    ensures { λ r. ⌜ r ≡ «av_root» «f_prev» «f_next» ⌝ }
+{
+    (-b_av(f_prev, f_next) - root::sqrt(d_av(f_prev, f_next))) / (2.0 * 36.0)
+}
+
+// The split rule: whether a parabola with these ends and this average falls below zero.
+fn splits(f_prev: f64, f_next: f64, f_average: f64) -> bool
+    ensures { λ r. ⌜ r ≡ splits «f_prev» «f_next» «f_average» ⌝ }
+{
+    let a = a_of(f_prev, f_next, f_average);
+    let b = b_of(f_prev, f_next, f_average);
+    if b * b - 4.0 * a * f_prev > 0.0 {
+        return d_av(f_prev, f_next) >= 0.0;
+    }
+    false
+}
+
+impl QuadraticMin {
+    pub fn new(
+        x_prev: f64,
+        x_next: f64,
+        f_prev: f64,
+        f_next: f64,
+        f_average: f64,
+        prev_primitive: f64,
+    ) -> Self
+        ensures { λ r. ⌜ r ≡ new «x_prev» «x_next» «f_prev» «f_next» «f_average» «prev_primitive» ⌝ }
+    {
+        if splits(f_prev, f_next, f_average) {
+            let touching = av_root(f_prev, f_next);
+            return Self::split(
+                x_prev,
+                x_next,
+                f_prev,
+                f_next,
+                f_average,
+                prev_primitive,
+                touching,
+            );
+        }
+        Self::unsplit(x_prev, x_next, f_prev, f_next, f_average, prev_primitive)
+    }
+
+    fn unsplit(
+        x_prev: f64,
+        x_next: f64,
+        f_prev: f64,
+        f_next: f64,
+        f_average: f64,
+        prev_primitive: f64,
+    ) -> Self
+        ensures { λ r. ⌜ r ≡ unsplit «x_prev» «x_next» «f_prev» «f_next» «f_average» «prev_primitive» ⌝ }
+    {
+        Self {
+            split_region: false,
+            x1: x_prev,
+            x2: 0.0,
+            x3: 0.0,
+            x4: x_next,
+            a: a_of(f_prev, f_next, f_average),
+            b: b_of(f_prev, f_next, f_average),
+            c: f_prev,
+            primitive1: prev_primitive,
+            primitive2: 0.0,
+            f_next,
+            x_scaling: x_next - x_prev,
+            x_ratio: 1.0,
+        }
+    }
+
+    // The parabola with the average av_root, which touches zero at x_root, squeezed by x_ratio.
+    fn split(
+        x_prev: f64,
+        x_next: f64,
+        f_prev: f64,
+        f_next: f64,
+        f_average: f64,
+        prev_primitive: f64,
+        av_root: f64,
+    ) -> Self
+        ensures { λ r. ⌜ r ≡ split «x_prev» «x_next» «f_prev» «f_next» «f_average» «prev_primitive» «av_root» ⌝ }
+    {
+        let x_ratio = f_average / av_root;
+        let x_scaling = (x_next - x_prev) * x_ratio;
+        let a = a_of(f_prev, f_next, av_root);
+        let b = b_of(f_prev, f_next, av_root);
+        let x_root = -b / (2.0 * a);
+        Self {
+            split_region: true,
+            x1: x_prev,
+            x2: x_prev + x_ratio * (x_next - x_prev) * x_root,
+            x3: x_next - x_ratio * (x_next - x_prev) * (1.0 - x_root),
+            x4: x_next,
+            a,
+            b,
+            c: f_prev,
+            primitive1: prev_primitive,
+            primitive2: under(prev_primitive, x_scaling, a, b, f_prev, x_root),
+            f_next,
+            x_scaling,
+            x_ratio,
+        }
+    }
+
+    fn value_at(self, v: f64) -> f64
+        ensures { λ r. ⌜ r ≡ «value_at» self v ⌝ }
+    {
+        self.c + self.b * v + self.a * v * v
+    }
+
+    fn primitive_at(self, v: f64) -> f64
+        ensures { λ r. ⌜ r ≡ «primitive_at» self v ⌝ }
+    {
+        under(self.primitive1, self.x_scaling, self.a, self.b, self.c, v)
+    }
+
+    pub fn value(self, x: f64) -> f64
+        ensures { λ r. ⌜ r ≡ value self x ⌝ }
+    {
+        let x_val = (x - self.x1) / (self.x4 - self.x1);
+        if self.split_region {
+            if x <= self.x2 {
+                return self.value_at(x_val / self.x_ratio);
+            }
+            if x < self.x3 {
+                return 0.0;
+            }
+            return self.value_at(1.0 - (1.0 - x_val) / self.x_ratio);
+        }
+        self.value_at(x_val)
+    }
+
+    pub fn primitive(self, x: f64) -> f64
+        ensures { λ r. ⌜ r ≡ primitive self x ⌝ }
+    {
+        let x_val = (x - self.x1) / (self.x4 - self.x1);
+        if self.split_region {
+            if x < self.x2 {
+                return self.primitive_at(x_val / self.x_ratio);
+            }
+            if x < self.x3 {
+                return self.primitive2;
+            }
+            return self.primitive_at(1.0 - (1.0 - x_val) / self.x_ratio);
+        }
+        self.primitive_at(x_val)
+    }
+
+    pub fn f_next(self) -> f64
+        ensures { λ r. ⌜ r ≡ «f_next» self ⌝ }
+    {
+        self.f_next
+    }
+}
