@@ -8,6 +8,7 @@ use lib.Ieee.{Float}
 use lib.ListN.{length}
 use Rattle.section.specs.declared.section.Section.{Section}
 use Rattle.numbers.specs.Words.{nought}
+use Rattle.numbers.proofs.Ways.{or-none}
 use Rattle.record.specs.Refusal.{first, number}
 use Rattle.record.specs.declared.reading.Found.{Found}
 use Rattle.record.specs.declared.reading.Found.the-variants as found
@@ -25,7 +26,6 @@ use Rattle.curve.specs.declared.query.Asked.{Asked}
 use Rattle.curve.specs.declared.query.Covered.{Covered}
 use Rattle.curve.specs.declared.query.Covered.the-variants as covered
 use Rattle.curve.specs.declared.query.Asked.the-variants as asked
-use Rattle.curve.proofs.Accepted.{or-none}
 
 pub record Reaches (x : List Float) (tags slots : ℕ) : Type 0 where
   pub low : 2 ≤ length x

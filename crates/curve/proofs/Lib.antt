@@ -1,11 +1,8 @@
 pub mod Above
 pub mod Accepted
 pub mod Answers
-pub mod Places
 pub mod ReadBack
-pub mod Rows
 pub mod Seams
 pub mod Unique
-pub mod Verdicts
 pub mod Walk
 pub mod Whole

@@ -9,6 +9,7 @@ use lib.Dec.{ltb}
 use lib.Ieee.{Float, nan, le, ne}
 use lib.ListN.{length, take, drop, getD, length-drop}
 use lib.Seq.{length-take-le, getD-take, getD-drop, ext-getD}
+use Rattle.numbers.proofs.Ways.{or-none}
 use Rattle.numbers.proofs.Overlay.{overlay-inside, length-overlay}
 use Rattle.section.specs.Section.{value, primitive}
 use Rattle.section.specs.declared.quadratic_part.QuadraticPart.{QuadraticPart}
@@ -30,14 +31,15 @@ use Rattle.table.specs.Table.{at}
 use Rattle.table.specs.declared.method.ConvexMonotone.{ConvexMonotone}
 use Rattle.table.specs.declared.ends.Frame.{Frame}
 use Rattle.table.specs.declared.ends.Seam.{Seam}
-use Rattle.curve.specs.Build.{buildTests, tagsAfter, slotsAfter}
+use Rattle.curve.specs.Build.{buildTests}
+use Rattle.shape.specs.Making.{tagsAfter, slotsAfter}
 use Rattle.curve.specs.Query.{queryTests, outside, placeOf, tailSection, covering, coveredAt, ask}
-use Rattle.curve.specs.Sections.{sectionAt, tagAt, slotAt}
+use Rattle.shape.specs.Sections.{sectionAt, tagAt, slotAt}
 use Rattle.curve.specs.declared.curve.Curve.{Curve}
 use Rattle.curve.specs.declared.query.Covered.{Covered}
 use Rattle.curve.specs.declared.query.Covered.the-variants as covered
 use Rattle.curve.specs.declared.query.Asked.the-variants as asked
-use Rattle.curve.proofs.Accepted.{fits, or-none}
+use Rattle.curve.proofs.Accepted.{fits}
 use Rattle.curve.proofs.Answers.{found-here}
 use Rattle.curve.proofs.Walk.{place-le}
 
@@ -111,28 +113,28 @@ module _ (x y : List Float) (frame : Frame) where
 
   -- the tag that is written for a section
   pub tag-read-back : (i : ℕ) (tags : List ℕ) → i < length x - 1 → length x - 1 ≤ length tags →
-      getD (tagsAfter x y frame tags) i 0 ≡ tagOf (sectionAt x y frame i)
+      getD (tagsAfter 0 x y frame tags) i 0 ≡ tagOf (sectionAt x y frame i)
   tag-read-back i tags l h =
-      ap (λ (j : ℕ). getD (tagsAfter x y frame tags) j 0) (sym (zero-add i))
+      ap (λ (j : ℕ). getD (tagsAfter 0 x y frame tags) j 0) (sym (zero-add i))
       ∙ overlay-inside 0 (length x - 1) (tagAt x y frame) tags i 0 l (omega arith)
 
   -- the slots that are written for it
   pub slots-read-back : (i : ℕ) (slots : List Float) → i < length x - 1 → 24 * (length x - 1) ≤ length slots →
-      take slotCount (drop (slotCount * i) (slotsAfter x y frame slots)) ≡ slotsOf (sectionAt x y frame i)
+      take slotCount (drop (slotCount * i) (slotsAfter 0 x y frame slots)) ≡ slotsOf (sectionAt x y frame i)
   slots-read-back i slots l h =
-      let same : length (slotsAfter x y frame slots) ≡ length slots = length-overlay 0 (24 * (length x - 1)) (slotAt x y frame) slots in
-      part-is (slotsAfter x y frame slots) (slotsOf (sectionAt x y frame i)) (24 * i) 24 (slots-length (sectionAt x y frame i)) (omega arith)
+      let same : length (slotsAfter 0 x y frame slots) ≡ length slots = length-overlay 0 (24 * (length x - 1)) (slotAt x y frame) slots in
+      part-is (slotsAfter 0 x y frame slots) (slotsOf (sectionAt x y frame i)) (24 * i) 24 (slots-length (sectionAt x y frame i)) (omega arith)
       (λ (k : ℕ) (m : k < 24).
-      ap (λ (j : ℕ). getD (slotsAfter x y frame slots) j nan) (sym (zero-add (24 * i + k)))
+      ap (λ (j : ℕ). getD (slotsAfter 0 x y frame slots) j nan) (sym (zero-add (24 * i + k)))
       ∙ overlay-inside 0 (24 * (length x - 1)) (slotAt x y frame) slots (24 * i + k) nan (omega arith) (omega arith)
       ∙ slot-here i k m)
 
   -- each record of a built curve is read back as the section it was written from
   pub record-read-back : (i : ℕ) (tags : List ℕ) (slots : List Float) → i < length x - 1 → length x - 1 ≤ length tags → 24 * (length x - 1) ≤ length slots →
-      readSection (getD (tagsAfter x y frame tags) i 0) (take slotCount (drop (slotCount * i) (slotsAfter x y frame slots)))
+      readSection (getD (tagsAfter 0 x y frame tags) i 0) (take slotCount (drop (slotCount * i) (slotsAfter 0 x y frame slots)))
       ≡ found.Section (sectionAt x y frame i)
   record-read-back i tags slots l h g =
-      ap (λ (t : ℕ). readSection t (take slotCount (drop (slotCount * i) (slotsAfter x y frame slots)))) (tag-read-back i tags l h)
+      ap (λ (t : ℕ). readSection t (take slotCount (drop (slotCount * i) (slotsAfter 0 x y frame slots)))) (tag-read-back i tags l h)
       ∙ ap (λ (s : List Float). readSection (tagOf (sectionAt x y frame i)) s) (slots-read-back i slots l g)
       ∙ round-trip (sectionAt x y frame i)
 
@@ -143,7 +145,7 @@ module _ (x y : List Float) (frame : Frame) where
   -- a query finds that section in the records of a built curve
   pub covering-read-back : (curve : Curve) (tags : List ℕ) (slots : List Float) (q : Float) → 2 ≤ length x → length x - 1 ≤ length tags →
       24 * (length x - 1) ≤ length slots →
-      covering x curve (tagsAfter x y frame tags) (slotsAfter x y frame slots) q ≡ found.Section (answering curve q)
+      covering x curve (tagsAfter 0 x y frame tags) (slotsAfter 0 x y frame slots) q ≡ found.Section (answering curve q)
   unfolding covering
   covering-read-back curve tags slots q low h g =
       either-found (le (at x (length x - 1)) q) (tailSection curve) (sectionAt x y frame (placeOf x q)) _
@@ -153,11 +155,11 @@ module _ (x y : List Float) (frame : Frame) where
   pub query-of-built : (method : ConvexMonotone) (seam : Seam) (nodes : List Float) (tags : List ℕ) (slots : List Float) (curve : Curve) (q : Float) →
       first (buildTests x y method seam (length nodes) (length tags) (length slots)) ≡ verdict.Accepted →
       ne q q ≡ false → outside x curve q ≡ false →
-      coveredAt x curve (tagsAfter x y frame tags) (slotsAfter x y frame slots) q ≡ covered.Section (answering curve q)
+      coveredAt x curve (tagsAfter 0 x y frame tags) (slotsAfter 0 x y frame slots) q ≡ covered.Section (answering curve q)
   query-of-built method seam nodes tags slots curve q h number inside =
       let room = fits x y method seam (length nodes) (length tags) (length slots) h in
       let ok =
-      query-accepted x y method seam (length nodes) (length tags) (length slots) (length (tagsAfter x y frame tags)) (length (slotsAfter x y frame slots)) curve q h
+      query-accepted x y method seam (length nodes) (length tags) (length slots) (length (tagsAfter 0 x y frame tags)) (length (slotsAfter 0 x y frame slots)) curve q h
       (length-overlay 0 (length x - 1) (tagAt x y frame) tags)
       (length-overlay 0 (24 * (length x - 1)) (slotAt x y frame) slots)
       number inside in
@@ -167,19 +169,19 @@ module _ (x y : List Float) (frame : Frame) where
   pub asked-of-built : (f : Section → Float) (method : ConvexMonotone) (seam : Seam) (nodes : List Float) (tags : List ℕ) (slots : List Float) (curve : Curve) (q : Float) →
       first (buildTests x y method seam (length nodes) (length tags) (length slots)) ≡ verdict.Accepted →
       ne q q ≡ false → outside x curve q ≡ false →
-      ask f (coveredAt x curve (tagsAfter x y frame tags) (slotsAfter x y frame slots) q) ≡ asked.Number (f (answering curve q))
+      ask f (coveredAt x curve (tagsAfter 0 x y frame tags) (slotsAfter 0 x y frame slots) q) ≡ asked.Number (f (answering curve q))
   asked-of-built f method seam nodes tags slots curve q h number inside = ap (λ (k : Covered). ask f k) (query-of-built method seam nodes tags slots curve q h number inside)
 
   -- so with its value at the query
   pub value-of-built : (method : ConvexMonotone) (seam : Seam) (nodes : List Float) (tags : List ℕ) (slots : List Float) (curve : Curve) (q : Float) →
       first (buildTests x y method seam (length nodes) (length tags) (length slots)) ≡ verdict.Accepted →
       ne q q ≡ false → outside x curve q ≡ false →
-      ask (λ s. value s q) (coveredAt x curve (tagsAfter x y frame tags) (slotsAfter x y frame slots) q) ≡ asked.Number (value (answering curve q) q)
+      ask (λ s. value s q) (coveredAt x curve (tagsAfter 0 x y frame tags) (slotsAfter 0 x y frame slots) q) ≡ asked.Number (value (answering curve q) q)
   value-of-built method seam nodes tags slots curve q = asked-of-built (λ s. value s q) method seam nodes tags slots curve q
 
   -- and with its total up to the query
   pub primitive-of-built : (method : ConvexMonotone) (seam : Seam) (nodes : List Float) (tags : List ℕ) (slots : List Float) (curve : Curve) (q : Float) →
       first (buildTests x y method seam (length nodes) (length tags) (length slots)) ≡ verdict.Accepted →
       ne q q ≡ false → outside x curve q ≡ false →
-      ask (λ s. primitive s q) (coveredAt x curve (tagsAfter x y frame tags) (slotsAfter x y frame slots) q) ≡ asked.Number (primitive (answering curve q) q)
+      ask (λ s. primitive s q) (coveredAt x curve (tagsAfter 0 x y frame tags) (slotsAfter 0 x y frame slots) q) ≡ asked.Number (primitive (answering curve q) q)
   primitive-of-built method seam nodes tags slots curve q = asked-of-built (λ s. primitive s q) method seam nodes tags slots curve q

@@ -9,7 +9,7 @@ use borrow.Author.Tests.{eq-eqb, ne-eqb, ltb-false}
 use lib.Dec.{eqb, ltb}
 use lib.Ieee.{Float}
 use lib.ListN.{length, take, drop, getD}
-use Rattle.numbers.proofs.Ways.{lt-or-le}
+use Rattle.numbers.proofs.Ways.{or-none, lt-or-le}
 use Rattle.section.specs.Section.{«f_next»}
 use Rattle.section.specs.declared.section.Section.{Section}
 use Rattle.record.specs.Reading.{readSection}
@@ -27,7 +27,6 @@ use Rattle.curve.specs.declared.growth.Previous.{Previous}
 use Rattle.curve.specs.declared.growth.Previous.the-variants as previous
 use Rattle.curve.specs.declared.growth.Carried.{Carried}
 use Rattle.curve.specs.declared.growth.Carried.the-variants as carried
-use Rattle.curve.proofs.Accepted.{or-none}
 
 -- the window, told without the sum
 pub no-window : (n l : ℕ) → n ≡ 0 → false ≡ firstWindow n l

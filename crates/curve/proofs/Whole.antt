@@ -14,7 +14,7 @@ use Rattle.curve.specs.Build.{buildVerdict, wholeFrame, curveOf, builtOf
 use Rattle.curve.specs.Curve.{withExtrapolation}
 use Rattle.curve.specs.Growth.{grown, grownLeft}
 use Rattle.curve.specs.Query.{outside, coveredAt, ask}
-use Rattle.curve.specs.Sections.{tailOf}
+use Rattle.shape.specs.Sections.{tailOf}
 use Rattle.curve.specs.declared.curve.Curve.{Curve}
 use Rattle.curve.specs.declared.curve.Built.the-variants as built
 use Rattle.curve.specs.declared.growth.Carried.{Carried}

@@ -1,29 +1,30 @@
 -- 01, Refusal numbers: build; Node values: two points. What `build` answers and leaves in the lent buffers.
-use Prim.Native.Nat.{ℕ, _-_, _*_}
+use Prim.Native.Nat.{ℕ, _-_}
 use mathlib.Core.Bool.{Bool, true, false, cond}
-use mathlib.Core.List.{List, _∷_, _++_}
+use mathlib.Core.List.{List, [], _∷_, _++_}
 use lib.Dec.{eqb}
 use lib.Ieee.{Float}
 use lib.ListN.{length}
-use Rattle.numbers.specs.Overlay.{overlay}
 use Rattle.numbers.specs.Words.{nought}
 use Rattle.record.specs.Refusal.{Test, first}
-use Rattle.record.specs.Slots.{slotCount}
 use Rattle.record.specs.declared.refusal.Verdict.{Verdict}
 use Rattle.record.specs.declared.refusal.Verdict.the-variants as verdict
 use Rattle.table.specs.Check.{tableTests, seamTest, roomTests}
-use Rattle.table.specs.Table.{nodeAt}
 use Rattle.table.specs.declared.method.ConvexMonotone.{ConvexMonotone}
 use Rattle.table.specs.declared.ends.End.the-variants as end
 use Rattle.table.specs.declared.ends.Seam.{Seam}
 use Rattle.table.specs.declared.ends.Frame.{Frame}
-use Rattle.curve.specs.Sections.{tagAt, slotAt, tailOf}
+use Rattle.shape.specs.Sections.{tailOf}
+use Rattle.shape.specs.Making.{left, nodesAfter, tagsAfter, slotsAfter}
 use Rattle.curve.specs.declared.curve.Built.{Built}
 use Rattle.curve.specs.declared.curve.Built.the-variants as built
 
 -- refused in the order 1 to 8, 10, 11
+abbrev pub seamedTests : List Float → List Float → ConvexMonotone → Seam → List Test
+seamedTests x y method seam = tableTests x y method ++ (seamTest seam (length x) ∷ [])
+
 abbrev pub buildTests : List Float → List Float → ConvexMonotone → Seam → ℕ → ℕ → ℕ → List Test
-buildTests x y method seam nodes tags slots = tableTests x y method ++ (seamTest seam (length x) ∷ roomTests (length x) nodes tags slots)
+buildTests x y method seam nodes tags slots = seamedTests x y method seam ++ roomTests (length x) nodes tags slots
 
 abbrev pub buildVerdict : List Float → List Float → ConvexMonotone → Seam → List Float → List ℕ → List Float → Verdict
 buildVerdict x y method seam nodes tags slots = first (buildTests x y method seam (length nodes) (length tags) (length slots))
@@ -44,31 +45,16 @@ abbrev pub answer : Verdict → Built → Built
 answer verdict.Accepted b = b
 answer (verdict.Refused r) b = built.Refused r
 
--- what a lent buffer holds: as it was, unless the table was accepted
-abbrev pub left : {A : Type 0} → Verdict → List A → List A → List A
-left verdict.Accepted new old = new
-left (verdict.Refused r) new old = old
-
-module _ (x y : List Float) (frame : Frame) where
-  abbrev pub nodesAfter : List Float → List Float
-  nodesAfter old = overlay 0 (length x) (nodeAt x y frame) old
-
-  abbrev pub tagsAfter : List ℕ → List ℕ
-  tagsAfter old = overlay 0 (length x - 1) (tagAt x y frame) old
-
-  abbrev pub slotsAfter : List Float → List Float
-  slotsAfter old = overlay 0 (slotCount * (length x - 1)) (slotAt x y frame) old
-
 -- what `build` answers, and what it leaves in each lent buffer
 module _ (x y : List Float) (method : ConvexMonotone) (hold : Bool) (seam : Seam) (nodes : List Float) (tags : List ℕ) (slots : List Float) where
   abbrev pub builtOf : Built
   builtOf = answer (buildVerdict x y method seam nodes tags slots) (curveOf x y (wholeFrame (length x) method hold seam) hold)
 
   abbrev pub nodesLeft : List Float
-  nodesLeft = left (buildVerdict x y method seam nodes tags slots) (nodesAfter x y (wholeFrame (length x) method hold seam) nodes) nodes
+  nodesLeft = left (buildVerdict x y method seam nodes tags slots) (nodesAfter 0 x y (wholeFrame (length x) method hold seam) nodes) nodes
 
   abbrev pub tagsLeft : List ℕ
-  tagsLeft = left (buildVerdict x y method seam nodes tags slots) (tagsAfter x y (wholeFrame (length x) method hold seam) tags) tags
+  tagsLeft = left (buildVerdict x y method seam nodes tags slots) (tagsAfter 0 x y (wholeFrame (length x) method hold seam) tags) tags
 
   abbrev pub slotsLeft : List Float
-  slotsLeft = left (buildVerdict x y method seam nodes tags slots) (slotsAfter x y (wholeFrame (length x) method hold seam) slots) slots
+  slotsLeft = left (buildVerdict x y method seam nodes tags slots) (slotsAfter 0 x y (wholeFrame (length x) method hold seam) slots) slots

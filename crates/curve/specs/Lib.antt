@@ -1,4 +1,3 @@
-pub mod Sections
 pub mod Curve
 pub mod Build
 pub mod Query

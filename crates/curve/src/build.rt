@@ -1,9 +1,10 @@
 // From a table to a curve.
 use crate::curve::Built;
 use crate::curve::Curve;
-use crate::sections::make;
 use record::refusal::Refusal;
 use record::refusal::Verdict;
+use shape::making::Made;
+use shape::making::make;
 use table::check::room_verdict;
 use table::check::seam_too_long;
 use table::check::table_verdict;
@@ -13,7 +14,23 @@ use table::ends::Seam;
 use table::method::ConvexMonotone;
 ghost use mathlib.Core.Path.{_≡_};
 ghost use Rattle.record.specs.Refusal.{first};
-ghost use Rattle.curve.specs.Build.{buildTests, wholeFrame, builtOf, nodesLeft, tagsLeft, slotsLeft};
+ghost use Rattle.curve.specs.Build.{seamedTests, buildTests, wholeFrame, builtOf, nodesLeft, tagsLeft, slotsLeft};
+
+// Refusals 1 to 8.
+fn seamed_verdict(xs: &[f64], ys: &[f64], method: ConvexMonotone, seam: Seam) -> Verdict
+    ensures { λ r. ⌜ r ≡ first (seamedTests (now (xs .entry)) (now (ys .entry)) method seam) ⌝ }
+{
+    let verdict = table_verdict(xs, ys, method);
+    match verdict {
+        Verdict::Refused(_) => verdict,
+        Verdict::Accepted => {
+            if seam_too_long(seam, xs.len()) {
+                return Verdict::Refused(Refusal::SeamTooLong);
+            }
+            Verdict::Accepted
+        }
+    }
+}
 
 // The first refusal of a table, for lent buffers of these lengths.
 pub fn build_verdict(
@@ -27,15 +44,10 @@ pub fn build_verdict(
 ) -> Verdict
     ensures { λ r. ⌜ r ≡ first (buildTests (now (xs .entry)) (now (ys .entry)) method seam nodes tags slots) ⌝ }
 {
-    let verdict = table_verdict(xs, ys, method);
+    let verdict = seamed_verdict(xs, ys, method, seam);
     match verdict {
         Verdict::Refused(_) => verdict,
-        Verdict::Accepted => {
-            if seam_too_long(seam, xs.len()) {
-                return Verdict::Refused(Refusal::SeamTooLong);
-            }
-            room_verdict(xs.len(), nodes, tags, slots)
-        }
+        Verdict::Accepted => room_verdict(xs.len(), nodes, tags, slots),
     }
 }
 
@@ -80,17 +92,19 @@ pub fn build(
     ensures tags { λ _. ⌜ now (tags .exit) ≡ tagsLeft (now (xs .entry)) (now (ys .entry)) method hold seam (now (nodes .entry)) (now (tags .entry)) (now (slots .entry)) ⌝ }
     ensures slots { λ _. ⌜ now (slots .exit) ≡ slotsLeft (now (xs .entry)) (now (ys .entry)) method hold seam (now (nodes .entry)) (now (tags .entry)) (now (slots .entry)) ⌝ }
 {
-    match build_verdict(xs, ys, method, seam, nodes.len(), tags.len(), slots.len()) {
+    match seamed_verdict(xs, ys, method, seam) {
         Verdict::Refused(refusal) => Built::Refused(refusal),
         Verdict::Accepted => {
             let frame = whole_frame(xs.len(), method, hold, seam);
-            let tail = make(xs, ys, frame, nodes, tags, slots);
-            Built::Curve(Curve {
-                sections: xs.len() - 1,
-                held: hold,
-                extrapolates: false,
-                tail,
-            })
+            match make(xs, ys, frame, nodes, tags, slots) {
+                Made::Refused(refusal) => Built::Refused(refusal),
+                Made::Tail(tail) => Built::Curve(Curve {
+                    sections: xs.len() - 1,
+                    held: hold,
+                    extrapolates: false,
+                    tail,
+                }),
+            }
         }
     }
 }

@@ -82,7 +82,7 @@ fn seam_of(curve: Curve, tags: &[u16], slots: &[f64]) -> Carried
 }
 
 // The seam of a table of so many points, or the refusal that comes before all of its own.
-fn carry(
+pub fn carry(
     points: usize,
     localisation: usize,
     previous: Previous,

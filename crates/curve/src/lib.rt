@@ -2,6 +2,4 @@
 pub mod build;
 pub mod curve;
 pub mod growth;
-mod nodes;
 pub mod query;
-pub mod sections;

@@ -2,7 +2,7 @@
 use borrow.Author.Needs.{needs}
 use lib.ListN.{length}
 use Rattle.curve.proofs.Seams.{in-window, past-none, past-curve}
-use Rattle.curve.proofs.Verdicts.{told}
+use Rattle.numbers.proofs.Ways.{told}
 use Rattle.curve.proofs.growth.carry.Statement.{statement}
 use Rattle.curve.proofs.growth.carry.Tie as tie
 

@@ -7,7 +7,7 @@ use borrow.Author.Needs.{needs}
 use lib.ListN.{length}
 use Rattle.curve.specs.Growth.{beyond}
 use Rattle.curve.proofs.Seams.{Holds, holds-all, of-none, of-beyond, of-held, of-free}
-use Rattle.curve.proofs.Verdicts.{told}
+use Rattle.numbers.proofs.Ways.{told}
 use Rattle.curve.proofs.growth.seam_of.Statement.{statement}
 use Rattle.curve.proofs.growth.seam_of.Tie as tie
 

@@ -1,5 +1,5 @@
 -- `query::query_verdict` meets its contract: each return by the tests that led there, in their order.
-use Rattle.curve.proofs.Verdicts.{asked-not, told}
+use Rattle.numbers.proofs.Ways.{asked-not, told}
 use borrow.Author.Tests.{lt-ltb, le-ltb}
 use borrow.Author.Needs.{needs}
 use Rattle.curve.proofs.query.query_verdict.Statement.{statement}
