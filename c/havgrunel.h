@@ -1,0 +1,257 @@
+/*
+ * Shaped forward curves for gas and power, proved.
+ *
+ * Every function here takes any numbers and comes back. Most answer the number of a refusal, or 0 where the call was accepted. A refused call
+ * writes nothing: every buffer that was lent holds what it held. An accepted one writes its answers from the start of the buffers, or a sheet
+ * from its place on, and leaves all other entries alone.
+ *
+ * A slice is passed as a pointer and, right behind it, the count of its entries. Where the count is 0 the pointer is not used and may be null.
+ * Otherwise it points to that many entries. Two slices of one call must not overlap unless both are const. A function keeps no pointer, allocates
+ * nothing, has no state and calls nothing but the C library's memcpy, so calls from several threads don't meet unless they share a buffer.
+ *
+ * A NaN is a NaN here, whatever its sign and payload: any may come back. All other numbers are the same on every machine, bit for bit.
+ *
+ * What each function answers, entry by entry, is a proved equation in crates/export. Two things are taken on trust: the step from checked code
+ * to machine code, and that callers keep to the lines above, which no proof on this side can see.
+ */
+#ifndef HAVGRUNEL_H
+#define HAVGRUNEL_H
+
+#include <stdbool.h>
+#include <stddef.h>
+#include <stdint.h>
+
+#ifdef __cplusplus
+extern "C" {
+#endif
+
+/* The refusals. A call that could be refused for several reasons tells the first in its own order, which is said at each function. */
+enum havgrunel_refusal {
+    HAVGRUNEL_ACCEPTED = 0,
+    HAVGRUNEL_LENGTHS_DIFFER = 1,       /* as many knots as averages are needed */
+    HAVGRUNEL_MONOTONICITY_OUTSIDE = 2, /* not in [0, 1], or a NaN */
+    HAVGRUNEL_QUADRATICITY_OUTSIDE = 3, /* not in [0, 1], or a NaN */
+    HAVGRUNEL_TOO_FEW_POINTS = 4,       /* fewer than 2 */
+    HAVGRUNEL_KNOT_NOT_FINITE = 5,
+    HAVGRUNEL_AVERAGE_NOT_FINITE = 6,
+    HAVGRUNEL_KNOTS_NOT_RISING = 7,     /* a knot is not above the one before */
+    HAVGRUNEL_SEAM_TOO_LONG = 8,        /* the seam's count leaves no period behind it */
+    HAVGRUNEL_NO_PREVIOUS_CURVE = 9,    /* growth past the first window from no curve, or one of no sections */
+    HAVGRUNEL_TOO_MANY_POINTS = 10,     /* more than HAVGRUNEL_MOST_POINTS */
+    HAVGRUNEL_BUFFER_TOO_SHORT = 11,
+    HAVGRUNEL_QUERY_NOT_A_NUMBER = 12,
+    HAVGRUNEL_QUERY_OUTSIDE = 13,       /* outside the knots, extrapolation off */
+    HAVGRUNEL_DERIVATIVE_ASKED = 14,
+    HAVGRUNEL_RECORD_NOT_LEGAL = 15,    /* a record's tag is none that there is, or the record is not there */
+    HAVGRUNEL_NO_GIVEN_NODE = 16,       /* a sheet has a given node at one end at least */
+    HAVGRUNEL_CUTS_NOT_INNER = 28       /* a cut is not an inner knot, or not above the one before */
+};
+
+/* A curve of n points takes n nodes, n - 1 tags and HAVGRUNEL_SLOTS slots for each tag. */
+#define HAVGRUNEL_MOST_POINTS 4096
+#define HAVGRUNEL_SLOTS 24
+
+/* The square root, correctly rounded. A zero, +infinity and a NaN are their own roots; below zero there is none, and a NaN comes back. */
+double havgrunel_sqrt(double a);
+
+/* The settings of the method where nothing else is asked for. */
+double havgrunel_default_quadraticity(void);
+double havgrunel_default_monotonicity(void);
+bool havgrunel_default_positivity(void);
+
+/*
+ * Builds the curve of a table: knots that rise, and for each knot but the first the average of the period that ends there. The first average is
+ * checked for finiteness and otherwise not read.
+ *
+ * `hold` asks for a constant last period. With `seamed`, the node at `seam_count` is `seam_node`; without it the two are not read. Written are
+ * the nodes, the tags and slots of the sections, the count of sections into sections[0], and into tail[0], tail[1], tail[2] the record that answers
+ * from the last knot on: its value, its total and where it starts.
+ *
+ * Refused in the order 1 to 8, 10, 11; a `sections` or `tail` that is too short is an 11 as well.
+ */
+uint8_t havgrunel_build(
+    const double *knots, size_t knots_count,
+    const double *averages, size_t averages_count,
+    double quadraticity, double monotonicity, bool positive,
+    bool hold,
+    bool seamed, size_t seam_count, double seam_node,
+    double *nodes, size_t nodes_count,
+    uint16_t *tags, size_t tags_count,
+    double *slots, size_t slots_count,
+    size_t *sections, size_t sections_count,
+    double *tail, size_t tail_count);
+
+/*
+ * Builds the next curve of a table that grows by a point at a time, its last period held until there are `final_size` points.
+ *
+ * While there are localisation + 1 points the table stands alone. After that it goes on from the previous curve: `grown` says that there is one,
+ * `previous_sections` is its count of sections, `previous_held` whether its last period was held (`hold` of the build, or for a grown curve whether
+ * its points were not `final_size`), and its tags and slots are lent as they were written. The new curve goes into other buffers, as for
+ * havgrunel_build.
+ *
+ * Past the first window refused by 9, then 15 for the previous curve; then in the order of a build.
+ */
+uint8_t havgrunel_grow(
+    const double *knots, size_t knots_count,
+    const double *averages, size_t averages_count,
+    double quadraticity, double monotonicity, bool positive,
+    size_t localisation, size_t final_size,
+    bool grown, size_t previous_sections, bool previous_held,
+    const uint16_t *previous_tags, size_t previous_tags_count,
+    const double *previous_slots, size_t previous_slots_count,
+    double *nodes, size_t nodes_count,
+    uint16_t *tags, size_t tags_count,
+    double *slots, size_t slots_count,
+    size_t *sections, size_t sections_count,
+    double *tail, size_t tail_count);
+
+/*
+ * The node at an inner knot, from the knots before it, at it and after it, and the averages of the two periods that meet there. It is what the
+ * sheets on both sides of a cut are given.
+ */
+double havgrunel_inner_node(double before, double here, double after, double average, double next);
+
+/*
+ * Builds one sheet of a table: a part of its knots and averages, into its place in the buffers of the whole. The first average of the part is
+ * checked for finiteness and otherwise not read.
+ *
+ * Where the table was cut, `left_given` or `right_given` is true and the node there is `left_node` or `right_node`, taken as it is; where it is false
+ * the node is not read. `start` is the total before the sheet, and `place` the number of its first knot in the whole, counted from 0. The nodes go to
+ * nodes[place] and on, the tags to tags[place] and on, the slots to slots[HAVGRUNEL_SLOTS * place] and on: two sheets that meet at a cut write the
+ * same node there. answer[0] is the total after the sheet, where the next one starts; answer[1], answer[2], answer[3] are the record that answers from
+ * the last knot on (value, total, from), or three +0.0 where a right node is given.
+ *
+ * Sheets that are given the whole's nodes and totals leave the buffers that a build of the whole leaves, in whatever order they are built. A build's
+ * total before knot i is a sum from the left, from +0.0 on, of each average times the length of its period.
+ *
+ * Refused in the order 16, 1 to 7, 10, 11; an `answer` of fewer than 4 entries is an 11 as well.
+ */
+uint8_t havgrunel_sheet(
+    const double *knots, size_t knots_count,
+    const double *averages, size_t averages_count,
+    double quadraticity, double monotonicity, bool positive,
+    bool left_given, double left_node,
+    bool right_given, double right_node,
+    double start, size_t place,
+    double *nodes, size_t nodes_count,
+    uint16_t *tags, size_t tags_count,
+    double *slots, size_t slots_count,
+    double *answer, size_t answer_count);
+
+/*
+ * Builds the curve of a whole table in sheets that end at the cuts, which are numbers of inner knots, counted from 0, each above the one before. With
+ * no cut there is one sheet, the whole. What is answered and written is what havgrunel_build answers and writes with `hold` and `seamed` off.
+ *
+ * Refused by 28, then in the order of a build.
+ */
+uint8_t havgrunel_build_in_sheets(
+    const double *knots, size_t knots_count,
+    const double *averages, size_t averages_count,
+    double quadraticity, double monotonicity, bool positive,
+    const size_t *cuts, size_t cuts_count,
+    double *nodes, size_t nodes_count,
+    uint16_t *tags, size_t tags_count,
+    double *slots, size_t slots_count,
+    size_t *sections, size_t sections_count,
+    double *tail, size_t tail_count);
+
+/*
+ * The price at x, or the total of all prices up to x, into answer[0]. Knots, tags, slots and the three numbers of the record are those of a curve
+ * that was built; `extrapolate` allows an x outside the knots.
+ *
+ * Refused in the order 4, 5, 7, 10, 11, 12, 13, 15; an `answer` with no entry is an 11 that comes after all of these.
+ */
+uint8_t havgrunel_value(
+    const double *knots, size_t knots_count,
+    const uint16_t *tags, size_t tags_count,
+    const double *slots, size_t slots_count,
+    double tail_value, double tail_total, double tail_from,
+    bool extrapolate, double x,
+    double *answer, size_t answer_count);
+
+uint8_t havgrunel_primitive(
+    const double *knots, size_t knots_count,
+    const uint16_t *tags, size_t tags_count,
+    const double *slots, size_t slots_count,
+    double tail_value, double tail_total, double tail_from,
+    bool extrapolate, double x,
+    double *answer, size_t answer_count);
+
+/* The method has no derivative: 14 comes back, whatever x is. */
+uint8_t havgrunel_derivative(double x);
+
+/*
+ * The 24 slots of section `number`, counted from 0, of a curve of `points` points, into the first 24 entries of `into`. Its tag is tags[number].
+ *
+ * Refused in the order 4, 10, 11 for short slots, 15 for a number that no section has, and 11 for an `into` of fewer than 24 entries.
+ */
+uint8_t havgrunel_record(
+    size_t points,
+    const double *slots, size_t slots_count,
+    size_t number,
+    double *into, size_t into_count);
+
+/*
+ * What the section of one record answers by itself, whatever x is: answer[0] is its value at x, answer[1] its primitive at x, answer[2] the node
+ * that it ends on. The slots are the record's own, 24 of them.
+ *
+ * Refused by 15 for a tag that is not legal or fewer than 24 slots, then by 11 for an `answer` of fewer than 3 entries.
+ */
+uint8_t havgrunel_section(
+    uint16_t tag,
+    const double *slots, size_t slots_count,
+    double x,
+    double *answer, size_t answer_count);
+
+/*
+ * A single section of each kind from its own numbers: its tag into tag[0], its slots into the first 24 entries of `slots`. Any numbers are taken.
+ * Refused by 11 alone.
+ *
+ * A combination's record is put together from two: slot 0 is the weight of the quadratic one, slots 1 to 12 are that one's, slots 13 to 23 the
+ * other's, and its tag is the sum of the two tags.
+ */
+uint8_t havgrunel_everywhere_constant(
+    double value, double prev_primitive, double x_prev,
+    uint16_t *tag, size_t tag_count,
+    double *slots, size_t slots_count);
+
+uint8_t havgrunel_constant_grad(
+    double f_prev, double prev_primitive, double x_prev, double x_next, double f_next,
+    uint16_t *tag, size_t tag_count,
+    double *slots, size_t slots_count);
+
+uint8_t havgrunel_convex_monotone2(
+    double x_prev, double x_next, double g_prev, double g_next, double f_average, double eta2, double prev_primitive,
+    uint16_t *tag, size_t tag_count,
+    double *slots, size_t slots_count);
+
+uint8_t havgrunel_convex_monotone3(
+    double x_prev, double x_next, double g_prev, double g_next, double f_average, double eta3, double prev_primitive,
+    uint16_t *tag, size_t tag_count,
+    double *slots, size_t slots_count);
+
+uint8_t havgrunel_convex_monotone4(
+    double x_prev, double x_next, double g_prev, double g_next, double f_average, double eta4, double prev_primitive,
+    uint16_t *tag, size_t tag_count,
+    double *slots, size_t slots_count);
+
+uint8_t havgrunel_convex_monotone4_min(
+    double x_prev, double x_next, double g_prev, double g_next, double f_average, double eta4, double prev_primitive,
+    uint16_t *tag, size_t tag_count,
+    double *slots, size_t slots_count);
+
+uint8_t havgrunel_quadratic(
+    double x_prev, double x_next, double f_prev, double f_next, double f_average, double prev_primitive,
+    uint16_t *tag, size_t tag_count,
+    double *slots, size_t slots_count);
+
+uint8_t havgrunel_quadratic_min(
+    double x_prev, double x_next, double f_prev, double f_next, double f_average, double prev_primitive,
+    uint16_t *tag, size_t tag_count,
+    double *slots, size_t slots_count);
+
+#ifdef __cplusplus
+}
+#endif
+
+#endif

@@ -1,0 +1,562 @@
+/* Calls every function of havgrunel.h at least once and checks what comes back, what is written and what stays as it was. */
+#include "havgrunel.h"
+
+#include <math.h>
+#include <stdio.h>
+#include <stdlib.h>
+#include <string.h>
+
+static int checks;
+static int failures;
+
+#define CHECK(holds)                                                             \
+    do {                                                                         \
+        checks++;                                                                \
+        if (!(holds)) {                                                          \
+            failures++;                                                          \
+            fprintf(stderr, "c/test.c:%d: does not hold: %s\n", __LINE__, #holds); \
+        }                                                                        \
+    } while (0)
+
+/* A number by its bits: -0.0 is not 0.0. */
+static uint64_t bits(double x)
+{
+    uint64_t b;
+    memcpy(&b, &x, sizeof b);
+    return b;
+}
+
+static bool same(double a, double b)
+{
+    return bits(a) == bits(b) || (isnan(a) && isnan(b));
+}
+
+/* Buffers for curves of up to 8 points, one entry longer than they need to be. */
+enum { POINTS = 8, NODES = POINTS + 1, TAGS = POINTS, SLOTS = HAVGRUNEL_SLOTS * (POINTS - 1) + 1 };
+
+struct curve {
+    double nodes[NODES];
+    uint16_t tags[TAGS];
+    double slots[SLOTS];
+    size_t sections[2];
+    double tail[4];
+};
+
+/* What no call writes by itself. */
+static void fill(struct curve *c)
+{
+    memset(c, 0x5a, sizeof *c);
+}
+
+static bool untouched(const struct curve *c)
+{
+    struct curve fresh;
+    fill(&fresh);
+    return memcmp(c, &fresh, sizeof fresh) == 0;
+}
+
+/* The entries behind the first n points' are as they were. */
+static bool rest_untouched(const struct curve *c, size_t n)
+{
+    struct curve fresh;
+    fill(&fresh);
+    const size_t slots = HAVGRUNEL_SLOTS * (n - 1);
+    return memcmp(c->nodes + n, fresh.nodes + n, sizeof fresh.nodes - n * sizeof *fresh.nodes) == 0
+        && memcmp(c->tags + n - 1, fresh.tags + n - 1, sizeof fresh.tags - (n - 1) * sizeof *fresh.tags) == 0
+        && memcmp(c->slots + slots, fresh.slots + slots, sizeof fresh.slots - slots * sizeof *fresh.slots) == 0
+        && memcmp(c->sections + 1, fresh.sections + 1, sizeof *fresh.sections) == 0
+        && memcmp(c->tail + 3, fresh.tail + 3, sizeof *fresh.tail) == 0;
+}
+
+struct table {
+    const double *knots;
+    size_t knots_count;
+    const double *averages;
+    size_t averages_count;
+    double quadraticity;
+    double monotonicity;
+    bool positive;
+};
+
+static uint8_t build_in(const struct table *t, bool hold, bool seamed, size_t count, double node, size_t nodes, size_t tags, size_t slots,
+    size_t sections, size_t tail, struct curve *c)
+{
+    return havgrunel_build(t->knots, t->knots_count, t->averages, t->averages_count, t->quadraticity, t->monotonicity, t->positive, hold, seamed,
+        count, node, c->nodes, nodes, c->tags, tags, c->slots, slots, c->sections, sections, c->tail, tail);
+}
+
+static uint8_t build(const struct table *t, bool hold, struct curve *c)
+{
+    fill(c);
+    return build_in(t, hold, false, 0, 0.0, NODES, TAGS, SLOTS, 2, 4, c);
+}
+
+typedef uint8_t query(const double *, size_t, const uint16_t *, size_t, const double *, size_t, double, double, double, bool, double, double *,
+    size_t);
+
+static uint8_t ask(query *q, const struct table *t, const struct curve *c, bool extrapolate, double x, double *answer)
+{
+    return q(t->knots, t->knots_count, c->tags, TAGS, c->slots, SLOTS, c->tail[0], c->tail[1], c->tail[2], extrapolate, x, answer, 1);
+}
+
+/* The price and the total at x, where both are to be there. */
+static bool answers(const struct table *t, const struct curve *c, bool extrapolate, double x, double value, double primitive)
+{
+    double v = -1.0;
+    double p = -1.0;
+    return ask(havgrunel_value, t, c, extrapolate, x, &v) == 0 && ask(havgrunel_primitive, t, c, extrapolate, x, &p) == 0 && same(v, value)
+        && same(p, primitive);
+}
+
+/* Both queries are refused with this number, and write nothing. */
+static bool refuses(const struct table *t, const struct curve *c, bool extrapolate, double x, uint8_t refusal)
+{
+    double v = -1.0;
+    double p = -1.0;
+    return ask(havgrunel_value, t, c, extrapolate, x, &v) == refusal && ask(havgrunel_primitive, t, c, extrapolate, x, &p) == refusal
+        && same(v, -1.0) && same(p, -1.0);
+}
+
+/* The order that is worked in the requirements: two points are one constant section. */
+static void two_points(void)
+{
+    const double knots[] = {0.0, 2.0};
+    const double averages[] = {9.0, 2.0};
+    const struct table t = {knots, 2, averages, 2, 0.0, 0.0, false};
+    struct curve c;
+    CHECK(build(&t, false, &c) == 0);
+    CHECK(c.sections[0] == 1);
+    CHECK(c.tags[0] == 0x0100);
+    CHECK(same(c.nodes[0], 0.0) && same(c.nodes[1], 0.0));
+    CHECK(same(c.tail[0], 2.0) && same(c.tail[1], 0.0) && same(c.tail[2], 0.0));
+    CHECK(rest_untouched(&c, 2));
+    CHECK(answers(&t, &c, false, 1.0, 2.0, 2.0));
+    CHECK(answers(&t, &c, false, 2.0, 2.0, 4.0));
+}
+
+static const double three_knots[] = {0.0, 1.0, 2.0};
+static const double three_averages[] = {0.0, 1.0, 3.0};
+static const struct table three = {three_knots, 3, three_averages, 3, 0.0, 1.0, false};
+
+static void three_points(void)
+{
+    struct curve c;
+    CHECK(build(&three, false, &c) == 0);
+    CHECK(c.sections[0] == 2);
+    CHECK(same(c.nodes[0], 0.5) && same(c.nodes[1], 2.0) && same(c.nodes[2], 3.5));
+    CHECK(c.tags[0] == 0x2000 && c.tags[1] == 0x2000);
+    CHECK(same(c.tail[0], 3.5) && same(c.tail[1], 4.0) && same(c.tail[2], 2.0));
+    CHECK(rest_untouched(&c, 3));
+    double v = -1.0;
+    CHECK(ask(havgrunel_value, &three, &c, false, 0.5, &v) == 0 && same(v, 0.875));
+    CHECK(ask(havgrunel_value, &three, &c, false, 1.5, &v) == 0 && same(v, 3.125));
+    CHECK(ask(havgrunel_value, &three, &c, false, 1.0, &v) == 0 && same(v, 2.0));
+    CHECK(ask(havgrunel_primitive, &three, &c, false, 1.0, &v) == 0 && same(v, 1.0));
+    CHECK(answers(&three, &c, false, 2.0, 3.5, 4.0));
+    CHECK(refuses(&three, &c, false, -1.0, HAVGRUNEL_QUERY_OUTSIDE));
+    CHECK(refuses(&three, &c, false, 2.5, HAVGRUNEL_QUERY_OUTSIDE));
+    CHECK(ask(havgrunel_value, &three, &c, true, -1.0, &v) == 0 && same(v, 2.0));
+    CHECK(answers(&three, &c, true, 3.0, 3.5, 7.5));
+    CHECK(refuses(&three, &c, true, NAN, HAVGRUNEL_QUERY_NOT_A_NUMBER));
+    CHECK(havgrunel_derivative(1.0) == HAVGRUNEL_DERIVATIVE_ASKED);
+    CHECK(havgrunel_derivative(NAN) == HAVGRUNEL_DERIVATIVE_ASKED);
+
+    /* a held last period is constant, from the last but one knot on */
+    CHECK(build(&three, true, &c) == 0);
+    CHECK(c.tags[0] == 0x2000 && c.tags[1] == 0x0100);
+    CHECK(same(c.tail[0], 3.0) && same(c.tail[1], 1.0) && same(c.tail[2], 1.0));
+    CHECK(answers(&three, &c, false, 1.5, 3.0, 2.5));
+}
+
+static void refused_tables(void)
+{
+    struct curve c;
+    struct table t = three;
+    t.averages_count = 2;
+    CHECK(build(&t, false, &c) == HAVGRUNEL_LENGTHS_DIFFER && untouched(&c));
+    t = three;
+    t.monotonicity = NAN;
+    t.quadraticity = 2.0;
+    CHECK(build(&t, false, &c) == HAVGRUNEL_MONOTONICITY_OUTSIDE && untouched(&c));
+    t.monotonicity = 1.0;
+    CHECK(build(&t, false, &c) == HAVGRUNEL_QUADRATICITY_OUTSIDE && untouched(&c));
+    t = three;
+    t.knots_count = t.averages_count = 1;
+    CHECK(build(&t, false, &c) == HAVGRUNEL_TOO_FEW_POINTS && untouched(&c));
+    t.knots = t.averages = NULL;
+    t.knots_count = t.averages_count = 0;
+    CHECK(build(&t, false, &c) == HAVGRUNEL_TOO_FEW_POINTS && untouched(&c));
+
+    const double infinite[] = {0.0, INFINITY, 2.0};
+    const double missing[] = {NAN, 1.0, 3.0};
+    const double level[] = {0.0, 1.0, 1.0};
+    t = three;
+    t.knots = infinite;
+    t.averages = missing;
+    CHECK(build(&t, false, &c) == HAVGRUNEL_KNOT_NOT_FINITE && untouched(&c));
+    t.knots = level;
+    CHECK(build(&t, false, &c) == HAVGRUNEL_AVERAGE_NOT_FINITE && untouched(&c));
+    t.averages = three_averages;
+    CHECK(build(&t, false, &c) == HAVGRUNEL_KNOTS_NOT_RISING && untouched(&c));
+
+    fill(&c);
+    CHECK(build_in(&three, false, true, 2, 1.0, NODES, TAGS, SLOTS, 2, 4, &c) == HAVGRUNEL_SEAM_TOO_LONG && untouched(&c));
+    CHECK(build_in(&three, false, true, SIZE_MAX, 1.0, NODES, TAGS, SLOTS, 2, 4, &c) == HAVGRUNEL_SEAM_TOO_LONG && untouched(&c));
+    CHECK(build_in(&three, false, true, 1, 1.0, NODES, TAGS, SLOTS, 2, 4, &c) == 0 && same(c.nodes[1], 1.0));
+
+    /* each buffer one entry too short; a table's own refusal comes before them */
+    fill(&c);
+    CHECK(build_in(&three, false, false, 0, 0.0, 2, 2, 48, 1, 3, &c) == HAVGRUNEL_BUFFER_TOO_SHORT && untouched(&c));
+    CHECK(build_in(&three, false, false, 0, 0.0, 3, 1, 48, 1, 3, &c) == HAVGRUNEL_BUFFER_TOO_SHORT && untouched(&c));
+    CHECK(build_in(&three, false, false, 0, 0.0, 3, 2, 47, 1, 3, &c) == HAVGRUNEL_BUFFER_TOO_SHORT && untouched(&c));
+    CHECK(build_in(&three, false, false, 0, 0.0, 3, 2, 48, 0, 3, &c) == HAVGRUNEL_BUFFER_TOO_SHORT && untouched(&c));
+    CHECK(build_in(&three, false, false, 0, 0.0, 3, 2, 48, 1, 2, &c) == HAVGRUNEL_BUFFER_TOO_SHORT && untouched(&c));
+    t = three;
+    t.knots = level;
+    CHECK(build_in(&t, false, false, 0, 0.0, 3, 2, 48, 0, 0, &c) == HAVGRUNEL_KNOTS_NOT_RISING && untouched(&c));
+    CHECK(build_in(&three, false, false, 0, 0.0, 3, 2, 48, 1, 3, &c) == 0 && rest_untouched(&c, 3));
+
+    const size_t many = HAVGRUNEL_MOST_POINTS + 1;
+    double *days = malloc(many * sizeof *days);
+    if (days == NULL) {
+        CHECK(days != NULL);
+        return;
+    }
+    for (size_t i = 0; i < many; i++)
+        days[i] = (double)i;
+    t = (struct table){days, many, days, many, 0.3, 0.7, true};
+    CHECK(build(&t, false, &c) == HAVGRUNEL_TOO_MANY_POINTS && untouched(&c));
+    free(days);
+}
+
+static void refused_queries(void)
+{
+    struct curve c;
+    CHECK(build(&three, false, &c) == 0);
+    const double level[] = {0.0, 1.0, 1.0};
+    const double infinite[] = {0.0, 1.0, INFINITY};
+    struct table t = three;
+    t.knots_count = 1;
+    CHECK(refuses(&t, &c, false, NAN, HAVGRUNEL_TOO_FEW_POINTS));
+    t = three;
+    t.knots = infinite;
+    CHECK(refuses(&t, &c, false, NAN, HAVGRUNEL_KNOT_NOT_FINITE));
+    t.knots = level;
+    CHECK(refuses(&t, &c, false, NAN, HAVGRUNEL_KNOTS_NOT_RISING));
+
+    double v = -1.0;
+    CHECK(havgrunel_value(three_knots, 3, c.tags, 1, c.slots, 48, 0.0, 0.0, 0.0, false, 0.5, &v, 1) == HAVGRUNEL_BUFFER_TOO_SHORT);
+    CHECK(havgrunel_value(three_knots, 3, c.tags, 2, c.slots, 47, 0.0, 0.0, 0.0, false, 0.5, &v, 1) == HAVGRUNEL_BUFFER_TOO_SHORT);
+    CHECK(havgrunel_primitive(three_knots, 3, c.tags, 2, c.slots, 48, 0.0, 0.0, 0.0, false, 0.5, NULL, 0) == HAVGRUNEL_BUFFER_TOO_SHORT);
+    CHECK(havgrunel_primitive(three_knots, 3, c.tags, 2, c.slots, 48, 0.0, 0.0, 0.0, false, 9.5, NULL, 0) == HAVGRUNEL_QUERY_OUTSIDE);
+    CHECK(same(v, -1.0));
+
+    /* a record that is not legal is read only where a query needs it */
+    c.tags[0] = 0xffff;
+    CHECK(refuses(&three, &c, false, 0.5, HAVGRUNEL_RECORD_NOT_LEGAL));
+    CHECK(ask(havgrunel_value, &three, &c, false, 1.5, &v) == 0 && same(v, 3.125));
+}
+
+/* What one record answers by itself. */
+static bool section_is(uint16_t tag, const double *slots, double x, double value, double primitive, double f_next)
+{
+    double a[4] = {-1.0, -1.0, -1.0, -1.0};
+    return havgrunel_section(tag, slots, HAVGRUNEL_SLOTS, x, a, 3) == 0 && same(a[0], value) && same(a[1], primitive) && same(a[2], f_next)
+        && same(a[3], -1.0);
+}
+
+static double value_of(uint16_t tag, const double *slots, double x)
+{
+    double a[3] = {-1.0, -1.0, -1.0};
+    CHECK(havgrunel_section(tag, slots, HAVGRUNEL_SLOTS, x, a, 3) == 0);
+    return a[0];
+}
+
+static void records(void)
+{
+    struct curve c;
+    CHECK(build(&three, false, &c) == 0);
+    double into[25];
+    memset(into, 0x5a, sizeof into);
+    const double old = into[24];
+    CHECK(havgrunel_record(3, c.slots, SLOTS, 1, into, 25) == 0);
+    CHECK(memcmp(into, c.slots + HAVGRUNEL_SLOTS, HAVGRUNEL_SLOTS * sizeof *into) == 0 && same(into[24], old));
+    /* the weight of a quadratic part alone, where it starts, its length; and nothing in the other part */
+    CHECK(same(into[0], 1.0) && same(into[1], 1.0) && same(into[2], 1.0) && same(into[13], 0.0) && same(into[23], 0.0));
+    CHECK(section_is(c.tags[1], into, 2.0, 3.5, 4.0, 3.5));
+
+    CHECK(havgrunel_record(1, c.slots, SLOTS, 0, into, 25) == HAVGRUNEL_TOO_FEW_POINTS);
+    CHECK(havgrunel_record(4097, c.slots, SLOTS, 0, into, 25) == HAVGRUNEL_TOO_MANY_POINTS);
+    CHECK(havgrunel_record(3, c.slots, 47, 0, into, 25) == HAVGRUNEL_BUFFER_TOO_SHORT);
+    CHECK(havgrunel_record(3, c.slots, 48, 2, into, 0) == HAVGRUNEL_RECORD_NOT_LEGAL);
+    CHECK(havgrunel_record(3, c.slots, 48, 0, into, 23) == HAVGRUNEL_BUFFER_TOO_SHORT);
+    CHECK(memcmp(into, c.slots + HAVGRUNEL_SLOTS, HAVGRUNEL_SLOTS * sizeof *into) == 0);
+
+    double a[3] = {-1.0, -1.0, -1.0};
+    CHECK(havgrunel_section(0x0000, c.slots, 24, 0.5, a, 3) == HAVGRUNEL_RECORD_NOT_LEGAL);
+    CHECK(havgrunel_section(0x2000, c.slots, 23, 0.5, a, 0) == HAVGRUNEL_RECORD_NOT_LEGAL);
+    CHECK(havgrunel_section(0x2000, c.slots, 24, 0.5, a, 2) == HAVGRUNEL_BUFFER_TOO_SHORT);
+    CHECK(same(a[0], -1.0) && same(a[1], -1.0) && same(a[2], -1.0));
+}
+
+static void kinds(void)
+{
+    uint16_t tag = 0;
+    double s[HAVGRUNEL_SLOTS];
+
+    CHECK(havgrunel_everywhere_constant(2.0, 3.0, 1.0, &tag, 1, s, 24) == 0 && tag == 0x0100);
+    CHECK(section_is(tag, s, 3.0, 2.0, 7.0, 2.0));
+
+    CHECK(havgrunel_constant_grad(1.0, 0.0, 0.0, 2.0, 3.0, &tag, 1, s, 24) == 0 && tag == 0x0200);
+    CHECK(section_is(tag, s, 1.0, 2.0, 1.5, 3.0));
+
+    CHECK(havgrunel_convex_monotone2(0.0, 1.0, -1.0, 5.0, 2.0, 0.5, 0.0, &tag, 1, s, 24) == 0 && tag == 0x0300);
+    CHECK(section_is(tag, s, 0.25, 1.0, 0.25, 7.0) && same(value_of(tag, s, 0.75), 2.5));
+
+    CHECK(havgrunel_convex_monotone3(0.0, 1.0, 2.0, -1.0, 2.0, 0.5, 0.0, &tag, 1, s, 24) == 0 && tag == 0x0400);
+    CHECK(same(value_of(tag, s, 0.25), 1.75) && same(value_of(tag, s, 0.75), 1.0));
+
+    CHECK(havgrunel_convex_monotone4(0.0, 1.0, 1.0, 1.0, 2.0, 0.5, 0.0, &tag, 1, s, 24) == 0 && tag == 0x0500);
+    CHECK(same(value_of(tag, s, 0.0), 3.0) && same(value_of(tag, s, 0.5), 1.5));
+    /* the joint at the left knot: nothing is left to divide by */
+    CHECK(havgrunel_convex_monotone4(0.0, 1.0, 1.0, 0.0, 1.0, 0.0, 0.0, &tag, 1, s, 24) == 0 && isnan(value_of(tag, s, 0.0)));
+
+    CHECK(havgrunel_convex_monotone4_min(0.0, 1.0, 1.0, 1.0, 2.0, 0.5, 0.0, &tag, 1, s, 24) == 0 && tag == 0x0600);
+    CHECK(same(value_of(tag, s, 0.0), 3.0) && same(value_of(tag, s, 0.5), 1.5));
+    CHECK(havgrunel_convex_monotone4_min(0.0, 1.0, 1.0, 1.0, 0.25, 0.5, 0.0, &tag, 1, s, 24) == 0 && tag == 0x0680);
+    CHECK(same(value_of(tag, s, 0.5), 0.0));
+
+    CHECK(havgrunel_quadratic(0.0, 1.0, 0.5, 2.0, 1.0, 0.0, &tag, 1, s, 24) == 0 && tag == 0x2000);
+    CHECK(section_is(tag, s, 1.0, 2.0, 1.0, 2.0) && same(value_of(tag, s, 0.5), 0.875));
+
+    CHECK(havgrunel_quadratic_min(0.0, 1.0, 4.0, 1.0, 0.5, 0.0, &tag, 1, s, 24) == 0 && tag == 0x5000);
+    CHECK(same(value_of(tag, s, 0.25), 0.25) && same(value_of(tag, s, 0.5), 0.0) && same(value_of(tag, s, 1.0), 1.0));
+    CHECK(havgrunel_quadratic_min(0.0, 1.0, 4.0, 1.0, 3.0, 0.0, &tag, 1, s, 24) == 0 && same(s[12], 3.0) && same(value_of(tag, s, 0.75), 1.5625));
+
+    /* a combination from two records: a quarter of the one and the rest of the other */
+    uint16_t other_tag = 0;
+    double other[HAVGRUNEL_SLOTS];
+    CHECK(havgrunel_quadratic(0.0, 1.0, 0.5, 2.0, 1.0, 0.0, &tag, 1, s, 24) == 0);
+    CHECK(havgrunel_convex_monotone2(0.0, 1.0, -1.0, 5.0, 2.0, 0.5, 0.0, &other_tag, 1, other, 24) == 0);
+    const double first = value_of(tag, s, 0.75);
+    const double second = value_of(other_tag, other, 0.75);
+    s[0] = 0.25;
+    memcpy(s + 13, other + 13, 11 * sizeof *s);
+    CHECK(same(value_of((uint16_t)(tag + other_tag), s, 0.75), 0.25 * first + 0.75 * second));
+
+    /* no room: nothing is written */
+    const uint16_t tag_before = tag;
+    double before[HAVGRUNEL_SLOTS];
+    memcpy(before, s, sizeof s);
+    CHECK(havgrunel_quadratic(9.0, 9.0, 9.0, 9.0, 9.0, 9.0, &tag, 1, s, 23) == HAVGRUNEL_BUFFER_TOO_SHORT);
+    CHECK(havgrunel_quadratic(9.0, 9.0, 9.0, 9.0, 9.0, 9.0, NULL, 0, s, 24) == HAVGRUNEL_BUFFER_TOO_SHORT);
+    CHECK(tag == tag_before && memcmp(before, s, sizeof s) == 0);
+}
+
+static uint8_t grow(const struct table *t, size_t localisation, size_t final_size, bool grown, size_t sections, bool held, const struct curve *from,
+    struct curve *c)
+{
+    fill(c);
+    return havgrunel_grow(t->knots, t->knots_count, t->averages, t->averages_count, t->quadraticity, t->monotonicity, t->positive, localisation,
+        final_size, grown, sections, held, from->tags, TAGS, from->slots, SLOTS, c->nodes, NODES, c->tags, TAGS, c->slots, SLOTS, c->sections, 2,
+        c->tail, 4);
+}
+
+static void growth(void)
+{
+    const double knots[] = {0.0, 1.0, 2.5, 3.0, 5.0};
+    const double averages[] = {0.0, 1.0, 3.0, 2.0, 2.5};
+    struct table t = {knots, 3, averages, 3, havgrunel_default_quadraticity(), havgrunel_default_monotonicity(), havgrunel_default_positivity()};
+    struct curve first;
+    struct curve second;
+    struct curve whole;
+
+    /* the first window stands alone, and is held */
+    fill(&whole);
+    CHECK(grow(&t, 2, 5, false, 0, false, &whole, &first) == 0 && rest_untouched(&first, 3));
+    CHECK(build(&t, true, &whole) == 0 && memcmp(&first, &whole, sizeof whole) == 0);
+
+    /* the next goes on where the last section that was not held ended */
+    t.knots_count = t.averages_count = 4;
+    CHECK(grow(&t, 2, 5, true, first.sections[0], true, &first, &second) == 0 && rest_untouched(&second, 4));
+    double end[3];
+    CHECK(havgrunel_section(first.tags[0], first.slots, 24, 0.0, end, 3) == 0);
+    fill(&whole);
+    CHECK(build_in(&t, true, true, 1, end[2], NODES, TAGS, SLOTS, 2, 4, &whole) == 0);
+    CHECK(memcmp(&second, &whole, sizeof whole) == 0);
+    CHECK(memcmp(second.slots, first.slots, HAVGRUNEL_SLOTS * sizeof *first.slots) == 0);
+
+    /* the last point: nothing is held any more */
+    t.knots_count = t.averages_count = 5;
+    CHECK(grow(&t, 2, 5, true, second.sections[0], true, &second, &first) == 0);
+    CHECK(havgrunel_section(second.tags[1], second.slots + HAVGRUNEL_SLOTS, 24, 0.0, end, 3) == 0);
+    fill(&whole);
+    CHECK(build_in(&t, false, true, 2, end[2], NODES, TAGS, SLOTS, 2, 4, &whole) == 0);
+    CHECK(memcmp(&first, &whole, sizeof whole) == 0);
+
+    /* from nothing, and from records that are not there or not legal */
+    CHECK(grow(&t, 2, 5, false, 4, true, &second, &first) == HAVGRUNEL_NO_PREVIOUS_CURVE && untouched(&first));
+    CHECK(grow(&t, 2, 5, true, 0, true, &second, &first) == HAVGRUNEL_NO_PREVIOUS_CURVE && untouched(&first));
+    CHECK(grow(&t, 2, 5, true, 4096, true, &second, &first) == HAVGRUNEL_RECORD_NOT_LEGAL && untouched(&first));
+    second.tags[1] = 0x0001;
+    CHECK(grow(&t, 2, 5, true, 3, true, &second, &first) == HAVGRUNEL_RECORD_NOT_LEGAL && untouched(&first));
+    /* a seam that leaves no period, and a table of its own fault */
+    CHECK(grow(&t, 2, 5, true, 3, false, &second, &first) == 0);
+    t.knots_count = t.averages_count = 4;
+    CHECK(grow(&t, 2, 5, true, 3, false, &second, &first) == HAVGRUNEL_SEAM_TOO_LONG && untouched(&first));
+    t.averages_count = 3;
+    CHECK(grow(&t, 2, 5, true, 3, false, &second, &first) == HAVGRUNEL_LENGTHS_DIFFER && untouched(&first));
+    CHECK(grow(&t, SIZE_MAX, 5, true, 3, false, &second, &first) == HAVGRUNEL_LENGTHS_DIFFER && untouched(&first));
+    /* answers without room come last */
+    t.averages_count = 4;
+    fill(&first);
+    CHECK(havgrunel_grow(knots, 4, averages, 4, 0.3, 0.7, true, 2, 5, true, 1, false, second.tags, TAGS, second.slots, SLOTS, first.nodes, NODES,
+              first.tags, TAGS, first.slots, SLOTS, first.sections, 0, first.tail, 4)
+        == HAVGRUNEL_BUFFER_TOO_SHORT);
+    CHECK(havgrunel_grow(knots, 4, averages, 4, 0.3, 0.7, true, 2, 5, false, 1, false, second.tags, TAGS, second.slots, SLOTS, first.nodes, NODES,
+              first.tags, TAGS, first.slots, SLOTS, first.sections, 1, first.tail, 2)
+        == HAVGRUNEL_NO_PREVIOUS_CURVE);
+    CHECK(untouched(&first));
+}
+
+/* What a sheet is handed. */
+struct handed {
+    bool left_given;
+    double left;
+    bool right_given;
+    double right;
+    double start;
+    size_t place;
+};
+
+static uint8_t sheet_in(const struct table *t, size_t from, size_t points, struct handed h, size_t nodes, size_t tags, size_t slots, size_t entries,
+    struct curve *c, double *answer)
+{
+    return havgrunel_sheet(t->knots + from, points, t->averages + from, points, t->quadraticity, t->monotonicity, t->positive, h.left_given, h.left,
+        h.right_given, h.right, h.start, h.place, c->nodes, nodes, c->tags, tags, c->slots, slots, answer, entries);
+}
+
+static uint8_t sheet(const struct table *t, size_t from, size_t points, struct handed h, struct curve *c, double *answer)
+{
+    return sheet_in(t, from, points, h, NODES, TAGS, SLOTS, 4, c, answer);
+}
+
+static uint8_t build_cut(const struct table *t, const size_t *cuts, size_t count, size_t sections, size_t tail, struct curve *c)
+{
+    fill(c);
+    return havgrunel_build_in_sheets(t->knots, t->knots_count, t->averages, t->averages_count, t->quadraticity, t->monotonicity, t->positive, cuts,
+        count, c->nodes, NODES, c->tags, TAGS, c->slots, SLOTS, c->sections, sections, c->tail, tail);
+}
+
+/* The nodes, tags and slots of two curves, to the last entry that was lent. */
+static bool same_buffers(const struct curve *a, const struct curve *b)
+{
+    return memcmp(a->nodes, b->nodes, sizeof a->nodes) == 0 && memcmp(a->tags, b->tags, sizeof a->tags) == 0
+        && memcmp(a->slots, b->slots, sizeof a->slots) == 0;
+}
+
+static bool answer_is(const double *answer, double total, double value, double at, double from)
+{
+    return same(answer[0], total) && same(answer[1], value) && same(answer[2], at) && same(answer[3], from) && same(answer[4], -1.0);
+}
+
+static void sheets(void)
+{
+    struct curve whole;
+    struct curve c;
+    double answer[5] = {-1.0, -1.0, -1.0, -1.0, -1.0};
+    CHECK(build(&three, false, &whole) == 0);
+    const double node = havgrunel_inner_node(0.0, 1.0, 2.0, 1.0, 3.0);
+    CHECK(same(node, 2.0));
+
+    /* the order that is worked in the requirements: three points, cut at the middle one */
+    const struct handed first = {false, NAN, true, node, 0.0, 0};
+    const struct handed second = {true, node, false, NAN, 1.0, 1};
+    fill(&c);
+    CHECK(sheet(&three, 0, 2, first, &c, answer) == 0 && answer_is(answer, 1.0, 0.0, 0.0, 0.0));
+    CHECK(rest_untouched(&c, 2));
+    CHECK(sheet(&three, 1, 2, second, &c, answer) == 0 && answer_is(answer, 4.0, 3.5, 4.0, 2.0));
+    CHECK(same_buffers(&c, &whole) && rest_untouched(&c, 3));
+    /* the other order, and one of them twice */
+    fill(&c);
+    CHECK(sheet(&three, 1, 2, second, &c, answer) == 0 && sheet(&three, 0, 2, first, &c, answer) == 0);
+    CHECK(same_buffers(&c, &whole));
+    CHECK(sheet(&three, 1, 2, second, &c, answer) == 0 && same_buffers(&c, &whole));
+
+    /* a whole table is no sheet, and that comes before its own faults */
+    const struct handed none = {false, node, false, node, 0.0, 0};
+    struct table t = three;
+    t.monotonicity = 2.0;
+    fill(&c);
+    for (size_t i = 0; i < 4; i++)
+        answer[i] = -1.0;
+    CHECK(sheet(&t, 0, 3, none, &c, answer) == HAVGRUNEL_NO_GIVEN_NODE);
+    CHECK(sheet_in(&t, 0, 3, none, 0, 0, 0, 0, &c, answer) == HAVGRUNEL_NO_GIVEN_NODE);
+    CHECK(sheet(&t, 0, 2, first, &c, answer) == HAVGRUNEL_MONOTONICITY_OUTSIDE);
+    CHECK(sheet(&three, 0, 1, first, &c, answer) == HAVGRUNEL_TOO_FEW_POINTS);
+    /* room is what the buffers have from the place on, and an answer without room comes last */
+    CHECK(sheet_in(&three, 1, 2, second, 2, 2, 48, 4, &c, answer) == HAVGRUNEL_BUFFER_TOO_SHORT);
+    CHECK(sheet_in(&three, 1, 2, second, 3, 1, 48, 4, &c, answer) == HAVGRUNEL_BUFFER_TOO_SHORT);
+    CHECK(sheet_in(&three, 1, 2, second, 3, 2, 47, 4, &c, answer) == HAVGRUNEL_BUFFER_TOO_SHORT);
+    CHECK(sheet_in(&three, 1, 2, second, 3, 2, 48, 3, &c, answer) == HAVGRUNEL_BUFFER_TOO_SHORT);
+    CHECK(sheet_in(&t, 1, 2, second, 3, 2, 48, 3, &c, answer) == HAVGRUNEL_MONOTONICITY_OUTSIDE);
+    struct handed far = second;
+    far.place = SIZE_MAX;
+    CHECK(sheet(&three, 1, 2, far, &c, answer) == HAVGRUNEL_BUFFER_TOO_SHORT);
+    far.place = SIZE_MAX / 8;
+    CHECK(sheet(&three, 1, 2, far, &c, answer) == HAVGRUNEL_BUFFER_TOO_SHORT);
+    CHECK(sheet_in(&three, 1, 2, far, NODES, TAGS, SLOTS, 0, &c, answer) == HAVGRUNEL_BUFFER_TOO_SHORT);
+    CHECK(untouched(&c) && answer_is(answer, -1.0, -1.0, -1.0, -1.0));
+
+    /* a whole table in sheets: the build's own answer */
+    const size_t cuts[] = {1, 1, 2, 0};
+    CHECK(build_cut(&three, cuts, 1, 2, 4, &c) == 0 && memcmp(&c, &whole, sizeof c) == 0);
+    CHECK(build_cut(&three, NULL, 0, 2, 4, &c) == 0 && memcmp(&c, &whole, sizeof c) == 0);
+    CHECK(build_cut(&three, cuts, 2, 2, 4, &c) == HAVGRUNEL_CUTS_NOT_INNER && untouched(&c));
+    CHECK(build_cut(&three, cuts + 2, 1, 2, 4, &c) == HAVGRUNEL_CUTS_NOT_INNER && untouched(&c));
+    CHECK(build_cut(&three, cuts + 3, 1, 2, 4, &c) == HAVGRUNEL_CUTS_NOT_INNER && untouched(&c));
+    /* cuts come first, and answers without room last */
+    CHECK(build_cut(&t, cuts + 2, 1, 2, 4, &c) == HAVGRUNEL_CUTS_NOT_INNER && untouched(&c));
+    CHECK(build_cut(&t, cuts + 2, 1, 0, 4, &c) == HAVGRUNEL_CUTS_NOT_INNER && untouched(&c));
+    CHECK(build_cut(&t, cuts, 1, 2, 4, &c) == HAVGRUNEL_MONOTONICITY_OUTSIDE && untouched(&c));
+    CHECK(build_cut(&t, cuts, 1, 2, 2, &c) == HAVGRUNEL_MONOTONICITY_OUTSIDE && untouched(&c));
+    CHECK(build_cut(&three, cuts, 1, 0, 4, &c) == HAVGRUNEL_BUFFER_TOO_SHORT && untouched(&c));
+    CHECK(build_cut(&three, cuts, 1, 1, 2, &c) == HAVGRUNEL_BUFFER_TOO_SHORT && untouched(&c));
+}
+
+static void defaults(void)
+{
+    CHECK(same(havgrunel_default_quadraticity(), 0.3));
+    CHECK(same(havgrunel_default_monotonicity(), 0.7));
+    CHECK(havgrunel_default_positivity());
+}
+
+static void roots(void)
+{
+    CHECK(same(havgrunel_sqrt(2304.0), 48.0));
+    CHECK(bits(havgrunel_sqrt(2.0)) == 0x3ff6a09e667f3bcd);
+    CHECK(bits(havgrunel_sqrt(0x1p-1074)) == 0x1e60000000000000);
+    CHECK(same(havgrunel_sqrt(-0.0), -0.0));
+    CHECK(same(havgrunel_sqrt(INFINITY), INFINITY));
+    CHECK(isnan(havgrunel_sqrt(-1.0)) && isnan(havgrunel_sqrt(NAN)));
+}
+
+int main(void)
+{
+    roots();
+    defaults();
+    two_points();
+    three_points();
+    refused_tables();
+    refused_queries();
+    records();
+    kinds();
+    growth();
+    sheets();
+    if (failures != 0) {
+        fprintf(stderr, "c: %d of %d checks don't hold\n", failures, checks);
+        return 1;
+    }
+    printf("c: every function called from C, %d checks hold\n", checks);
+    return 0;
+}

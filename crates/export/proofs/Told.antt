@@ -1,0 +1,62 @@
+-- What is told of an answer, case by case: of a query's, and of a curve's.
+use Prim.Native.Nat.{ℕ}
+use mathlib.Core.Bool.{Bool, true, false}
+use mathlib.Core.List.{List}
+use mathlib.Core.Path.{_≡_, refl, sym, _∙_}
+use lib.Ieee.{Float}
+use lib.ListN.{set}
+use Rattle.record.specs.Refusal.{number}
+use Rattle.record.specs.declared.refusal.Refusal.{Refusal}
+use Rattle.record.specs.declared.refusal.Refusal.the-variants.{BufferTooShort}
+use Rattle.record.specs.declared.refusal.Verdict.{Verdict}
+use Rattle.record.specs.declared.refusal.Verdict.the-variants as verdict
+use Rattle.curve.specs.Build.{answer}
+use Rattle.curve.specs.Curve.{toldCurve}
+use Rattle.curve.specs.Query.{toldNumber}
+use Rattle.curve.specs.declared.curve.Curve.{Curve}
+use Rattle.curve.specs.declared.curve.Built.{Built}
+use Rattle.curve.specs.declared.curve.Built.the-variants as built
+use Rattle.curve.specs.declared.query.Asked.{Asked}
+use Rattle.curve.specs.declared.query.Asked.the-variants as asked
+use Rattle.export.specs.Asking as asking
+use Rattle.export.specs.Building as building
+
+-- a query's answer: refused, refused for want of room, or written
+pub query-refused : (short : Bool) (k : Asked) (r : Refusal) (n : ℕ) (old : List Float) → k ≡ asked.Refused r → n ≡ number r →
+    (n ≡ toldNumber (asking.roomed short k) .refusal) × (old ≡ asking.numberLeft (asking.roomed short k) old)
+query-refused short k r n old e f = (rw (e, f), rw e)
+
+pub query-short : (short : Bool) (k : Asked) (v : Float) (n : ℕ) (old : List Float) → short ≡ true → k ≡ asked.Number v → n ≡ number BufferTooShort →
+    (n ≡ toldNumber (asking.roomed short k) .refusal) × (old ≡ asking.numberLeft (asking.roomed short k) old)
+query-short short k v n old h e f = (rw (e, h, f), rw (e, h))
+
+pub query-written : (short : Bool) (k : Asked) (v : Float) (old : List Float) → short ≡ false → k ≡ asked.Number v →
+    (_≡_ {A = ℕ} 0 (toldNumber (asking.roomed short k) .refusal)) × (set old 0 v ≡ asking.numberLeft (asking.roomed short k) old)
+query-written short k v old h e = (rw (e, h), rw (e, h))
+
+-- what is told of an answer is told of its definition
+pub query-told : (short : Bool) (j k : Asked) (n : ℕ) (new old : List Float) → j ≡ k →
+    (n ≡ toldNumber (asking.roomed short j) .refusal) × (new ≡ asking.numberLeft (asking.roomed short j) old) →
+    (n ≡ toldNumber (asking.roomed short k) .refusal) × (new ≡ asking.numberLeft (asking.roomed short k) old)
+query-told short j k n new old e p = (rw e at (p .0), rw e at (p .1))
+
+-- a curve's numbers: refused, or written
+pub curve-refused : (b : Built) (r : Refusal) (n : ℕ) (sections : List ℕ) (tail : List Float) → b ≡ built.Refused r → n ≡ number r →
+    (n ≡ toldCurve b .refusal) × ((sections ≡ building.countLeft b sections) × (tail ≡ building.recordLeft b tail))
+curve-refused b r n sections tail e f = (rw (e, f), (rw e, rw e))
+
+pub curve-written : (b : Built) (c : Curve) (sections : List ℕ) (tail : List Float) → b ≡ built.Curve c →
+    (_≡_ {A = ℕ} 0 (toldCurve b .refusal))
+    × ((set sections 0 (c .sections) ≡ building.countLeft b sections)
+    × (set (set (set tail 0 (c .tail .value)) 1 (c .tail .total)) 2 (c .tail .from) ≡ building.recordLeft b tail))
+curve-written b c sections tail e = (rw e, (rw e, rw e))
+
+-- with no room for the answers, what is told of a table is its own refusal, or that one
+pub table-short : (v : Verdict) (c : Curve) → building.lastRefusal v ≡ toldCurve (building.roomed true (answer v (built.Curve c))) .refusal
+table-short verdict.Accepted c = refl
+table-short (verdict.Refused r) c = refl
+
+-- with room, it is what is told of the table
+pub table-roomy : (b : Built) → toldCurve b .refusal ≡ toldCurve (building.roomed false b) .refusal
+table-roomy (built.Curve c) = refl
+table-roomy (built.Refused r) = refl

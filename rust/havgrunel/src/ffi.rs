@@ -1,0 +1,450 @@
+//! The functions of the archive. All unsafe code of this crate is here.
+//!
+//! A slice crosses as a pointer and a count, as c/havgrunel.h says. Each function is proved to read and write within the counts
+//! it is given, for any numbers whatever, and to come back. What is left to show at a call is that each pointer
+//! leads to as many entries as are told, that no one else uses what is written while the call lasts, and that the declaration
+//! fits the function. The first two follow from the slices' own types; the last is what the tests against the archive run.
+
+use crate::ConvexMonotone;
+use crate::lent::{Buffers, Curve, Previous, Seam, Sheet};
+
+// A count is 64 bits on the other side.
+#[cfg(not(target_pointer_width = "64"))]
+compile_error!("the library is made for 64-bit machines");
+
+mod archive {
+    // SAFETY: the declarations are those of c/havgrunel.h. The functions marked safe take numbers alone.
+    unsafe extern "C" {
+        pub safe fn havgrunel_sqrt(a: f64) -> f64;
+        pub safe fn havgrunel_default_quadraticity() -> f64;
+        pub safe fn havgrunel_default_monotonicity() -> f64;
+        pub safe fn havgrunel_default_positivity() -> bool;
+        pub safe fn havgrunel_derivative(x: f64) -> u8;
+        pub safe fn havgrunel_inner_node(
+            before: f64,
+            here: f64,
+            after: f64,
+            average: f64,
+            next: f64,
+        ) -> f64;
+
+        pub fn havgrunel_build(
+            knots: *const f64,
+            knots_count: usize,
+            averages: *const f64,
+            averages_count: usize,
+            quadraticity: f64,
+            monotonicity: f64,
+            positive: bool,
+            hold: bool,
+            seamed: bool,
+            seam_count: usize,
+            seam_node: f64,
+            nodes: *mut f64,
+            nodes_count: usize,
+            tags: *mut u16,
+            tags_count: usize,
+            slots: *mut f64,
+            slots_count: usize,
+            sections: *mut usize,
+            sections_count: usize,
+            tail: *mut f64,
+            tail_count: usize,
+        ) -> u8;
+
+        pub fn havgrunel_grow(
+            knots: *const f64,
+            knots_count: usize,
+            averages: *const f64,
+            averages_count: usize,
+            quadraticity: f64,
+            monotonicity: f64,
+            positive: bool,
+            localisation: usize,
+            final_size: usize,
+            grown: bool,
+            previous_sections: usize,
+            previous_held: bool,
+            previous_tags: *const u16,
+            previous_tags_count: usize,
+            previous_slots: *const f64,
+            previous_slots_count: usize,
+            nodes: *mut f64,
+            nodes_count: usize,
+            tags: *mut u16,
+            tags_count: usize,
+            slots: *mut f64,
+            slots_count: usize,
+            sections: *mut usize,
+            sections_count: usize,
+            tail: *mut f64,
+            tail_count: usize,
+        ) -> u8;
+
+        pub fn havgrunel_sheet(
+            knots: *const f64,
+            knots_count: usize,
+            averages: *const f64,
+            averages_count: usize,
+            quadraticity: f64,
+            monotonicity: f64,
+            positive: bool,
+            left_given: bool,
+            left_node: f64,
+            right_given: bool,
+            right_node: f64,
+            start: f64,
+            place: usize,
+            nodes: *mut f64,
+            nodes_count: usize,
+            tags: *mut u16,
+            tags_count: usize,
+            slots: *mut f64,
+            slots_count: usize,
+            answer: *mut f64,
+            answer_count: usize,
+        ) -> u8;
+
+        pub fn havgrunel_build_in_sheets(
+            knots: *const f64,
+            knots_count: usize,
+            averages: *const f64,
+            averages_count: usize,
+            quadraticity: f64,
+            monotonicity: f64,
+            positive: bool,
+            cuts: *const usize,
+            cuts_count: usize,
+            nodes: *mut f64,
+            nodes_count: usize,
+            tags: *mut u16,
+            tags_count: usize,
+            slots: *mut f64,
+            slots_count: usize,
+            sections: *mut usize,
+            sections_count: usize,
+            tail: *mut f64,
+            tail_count: usize,
+        ) -> u8;
+
+        pub fn havgrunel_value(
+            knots: *const f64,
+            knots_count: usize,
+            tags: *const u16,
+            tags_count: usize,
+            slots: *const f64,
+            slots_count: usize,
+            tail_value: f64,
+            tail_total: f64,
+            tail_from: f64,
+            extrapolate: bool,
+            x: f64,
+            answer: *mut f64,
+            answer_count: usize,
+        ) -> u8;
+
+        pub fn havgrunel_primitive(
+            knots: *const f64,
+            knots_count: usize,
+            tags: *const u16,
+            tags_count: usize,
+            slots: *const f64,
+            slots_count: usize,
+            tail_value: f64,
+            tail_total: f64,
+            tail_from: f64,
+            extrapolate: bool,
+            x: f64,
+            answer: *mut f64,
+            answer_count: usize,
+        ) -> u8;
+
+        pub fn havgrunel_record(
+            points: usize,
+            slots: *const f64,
+            slots_count: usize,
+            number: usize,
+            into: *mut f64,
+            into_count: usize,
+        ) -> u8;
+
+        pub fn havgrunel_section(
+            tag: u16,
+            slots: *const f64,
+            slots_count: usize,
+            x: f64,
+            answer: *mut f64,
+            answer_count: usize,
+        ) -> u8;
+    }
+}
+
+pub use archive::havgrunel_default_monotonicity as default_monotonicity;
+pub use archive::havgrunel_default_positivity as default_positivity;
+pub use archive::havgrunel_default_quadraticity as default_quadraticity;
+pub use archive::havgrunel_derivative as derivative;
+pub use archive::havgrunel_inner_node as inner_node;
+pub use archive::havgrunel_sqrt as sqrt;
+
+#[allow(clippy::too_many_arguments)]
+pub fn build(
+    knots: &[f64],
+    averages: &[f64],
+    method: ConvexMonotone,
+    hold: bool,
+    seam: Option<Seam>,
+    buffers: Buffers<'_>,
+    sections: &mut [usize],
+    tail: &mut [f64],
+) -> u8 {
+    let (count, node) = seam.map_or((0, 0.0), |seam| (seam.count, seam.node));
+    // SAFETY: each pointer and count is one slice's, borrowed until the call is over; what is written is borrowed by no one else.
+    unsafe {
+        archive::havgrunel_build(
+            knots.as_ptr(),
+            knots.len(),
+            averages.as_ptr(),
+            averages.len(),
+            method.quadraticity,
+            method.monotonicity,
+            method.force_positive,
+            hold,
+            seam.is_some(),
+            count,
+            node,
+            buffers.nodes.as_mut_ptr(),
+            buffers.nodes.len(),
+            buffers.tags.as_mut_ptr(),
+            buffers.tags.len(),
+            buffers.slots.as_mut_ptr(),
+            buffers.slots.len(),
+            sections.as_mut_ptr(),
+            sections.len(),
+            tail.as_mut_ptr(),
+            tail.len(),
+        )
+    }
+}
+
+#[allow(clippy::too_many_arguments)]
+pub fn grow(
+    knots: &[f64],
+    averages: &[f64],
+    method: ConvexMonotone,
+    localisation: usize,
+    final_size: usize,
+    previous: Option<Previous<'_>>,
+    buffers: Buffers<'_>,
+    sections: &mut [usize],
+    tail: &mut [f64],
+) -> u8 {
+    let grown = previous.is_some();
+    let previous = previous.unwrap_or(Previous {
+        sections: 0,
+        held: false,
+        tags: &[],
+        slots: &[],
+    });
+    // SAFETY: each pointer and count is one slice's, borrowed until the call is over; what is written is borrowed by no one else,
+    // the previous curve included.
+    unsafe {
+        archive::havgrunel_grow(
+            knots.as_ptr(),
+            knots.len(),
+            averages.as_ptr(),
+            averages.len(),
+            method.quadraticity,
+            method.monotonicity,
+            method.force_positive,
+            localisation,
+            final_size,
+            grown,
+            previous.sections,
+            previous.held,
+            previous.tags.as_ptr(),
+            previous.tags.len(),
+            previous.slots.as_ptr(),
+            previous.slots.len(),
+            buffers.nodes.as_mut_ptr(),
+            buffers.nodes.len(),
+            buffers.tags.as_mut_ptr(),
+            buffers.tags.len(),
+            buffers.slots.as_mut_ptr(),
+            buffers.slots.len(),
+            sections.as_mut_ptr(),
+            sections.len(),
+            tail.as_mut_ptr(),
+            tail.len(),
+        )
+    }
+}
+
+pub fn sheet(
+    knots: &[f64],
+    averages: &[f64],
+    method: ConvexMonotone,
+    sheet: Sheet,
+    buffers: Buffers<'_>,
+    answer: &mut [f64],
+) -> u8 {
+    // SAFETY: each pointer and count is one slice's, borrowed until the call is over; what is written is borrowed by no one else.
+    unsafe {
+        archive::havgrunel_sheet(
+            knots.as_ptr(),
+            knots.len(),
+            averages.as_ptr(),
+            averages.len(),
+            method.quadraticity,
+            method.monotonicity,
+            method.force_positive,
+            sheet.left.is_some(),
+            sheet.left.unwrap_or(0.0),
+            sheet.right.is_some(),
+            sheet.right.unwrap_or(0.0),
+            sheet.start,
+            sheet.place,
+            buffers.nodes.as_mut_ptr(),
+            buffers.nodes.len(),
+            buffers.tags.as_mut_ptr(),
+            buffers.tags.len(),
+            buffers.slots.as_mut_ptr(),
+            buffers.slots.len(),
+            answer.as_mut_ptr(),
+            answer.len(),
+        )
+    }
+}
+
+pub fn build_in_sheets(
+    knots: &[f64],
+    averages: &[f64],
+    method: ConvexMonotone,
+    cuts: &[usize],
+    buffers: Buffers<'_>,
+    sections: &mut [usize],
+    tail: &mut [f64],
+) -> u8 {
+    // SAFETY: each pointer and count is one slice's, borrowed until the call is over; what is written is borrowed by no one else.
+    unsafe {
+        archive::havgrunel_build_in_sheets(
+            knots.as_ptr(),
+            knots.len(),
+            averages.as_ptr(),
+            averages.len(),
+            method.quadraticity,
+            method.monotonicity,
+            method.force_positive,
+            cuts.as_ptr(),
+            cuts.len(),
+            buffers.nodes.as_mut_ptr(),
+            buffers.nodes.len(),
+            buffers.tags.as_mut_ptr(),
+            buffers.tags.len(),
+            buffers.slots.as_mut_ptr(),
+            buffers.slots.len(),
+            sections.as_mut_ptr(),
+            sections.len(),
+            tail.as_mut_ptr(),
+            tail.len(),
+        )
+    }
+}
+
+macro_rules! queries {
+    ($($name:ident: $exported:ident;)*) => {
+        $(pub fn $name(
+            knots: &[f64],
+            tags: &[u16],
+            slots: &[f64],
+            curve: &Curve,
+            x: f64,
+            answer: &mut [f64],
+        ) -> u8 {
+            // SAFETY: each pointer and count is one slice's, borrowed until the call is over; the answer's is borrowed by no one else.
+            unsafe {
+                archive::$exported(
+                    knots.as_ptr(),
+                    knots.len(),
+                    tags.as_ptr(),
+                    tags.len(),
+                    slots.as_ptr(),
+                    slots.len(),
+                    curve.tail.value,
+                    curve.tail.total,
+                    curve.tail.from,
+                    curve.extrapolates,
+                    x,
+                    answer.as_mut_ptr(),
+                    answer.len(),
+                )
+            }
+        })*
+    };
+}
+
+queries! {
+    value: havgrunel_value;
+    primitive: havgrunel_primitive;
+}
+
+pub fn record(points: usize, slots: &[f64], number: usize, into: &mut [f64]) -> u8 {
+    // SAFETY: each pointer and count is one slice's, borrowed until the call is over; `into` is borrowed by no one else.
+    unsafe {
+        archive::havgrunel_record(
+            points,
+            slots.as_ptr(),
+            slots.len(),
+            number,
+            into.as_mut_ptr(),
+            into.len(),
+        )
+    }
+}
+
+pub fn section(tag: u16, slots: &[f64], x: f64, answer: &mut [f64]) -> u8 {
+    // SAFETY: each pointer and count is one slice's, borrowed until the call is over; the answer's is borrowed by no one else.
+    unsafe {
+        archive::havgrunel_section(
+            tag,
+            slots.as_ptr(),
+            slots.len(),
+            x,
+            answer.as_mut_ptr(),
+            answer.len(),
+        )
+    }
+}
+
+macro_rules! kinds {
+    ($($name:ident: $exported:ident($($argument:ident),*);)*) => {
+        mod kinds {
+            // SAFETY: the declarations are those of c/havgrunel.h.
+            unsafe extern "C" {
+                $(pub fn $exported(
+                    $($argument: f64,)*
+                    tag: *mut u16,
+                    tag_count: usize,
+                    slots: *mut f64,
+                    slots_count: usize,
+                ) -> u8;)*
+            }
+        }
+
+        $(#[allow(clippy::too_many_arguments)]
+        pub fn $name($($argument: f64,)* tag: &mut u16, slots: &mut [f64]) -> u8 {
+            // SAFETY: one tag, and the slots with their own count, borrowed by no one else until the call is over.
+            unsafe { kinds::$exported($($argument,)* tag, 1, slots.as_mut_ptr(), slots.len()) }
+        })*
+    };
+}
+
+kinds! {
+    everywhere_constant: havgrunel_everywhere_constant(value, prev_primitive, x_prev);
+    constant_grad: havgrunel_constant_grad(f_prev, prev_primitive, x_prev, x_next, f_next);
+    convex_monotone2: havgrunel_convex_monotone2(x_prev, x_next, g_prev, g_next, f_average, eta2, prev_primitive);
+    convex_monotone3: havgrunel_convex_monotone3(x_prev, x_next, g_prev, g_next, f_average, eta3, prev_primitive);
+    convex_monotone4: havgrunel_convex_monotone4(x_prev, x_next, g_prev, g_next, f_average, eta4, prev_primitive);
+    convex_monotone4_min: havgrunel_convex_monotone4_min(x_prev, x_next, g_prev, g_next, f_average, eta4, prev_primitive);
+    quadratic: havgrunel_quadratic(x_prev, x_next, f_prev, f_next, f_average, prev_primitive);
+    quadratic_min: havgrunel_quadratic_min(x_prev, x_next, f_prev, f_next, f_average, prev_primitive);
+}

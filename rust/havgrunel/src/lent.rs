@@ -1,0 +1,253 @@
+//! The same calls over the caller's own buffers, with nothing allocated.
+//!
+//! A curve of n points takes n nodes, n - 1 tags and [`SLOTS`] slots for each tag; longer buffers are as good, and what lies
+//! beyond is not touched. A refused call has written nothing.
+
+use crate::{ConvexMonotone, Refusal, SLOTS, ffi};
+
+/// Where a curve is written.
+#[derive(Debug)]
+pub struct Buffers<'a> {
+    /// The price that the method puts at each knot.
+    pub nodes: &'a mut [f64],
+    /// A tag for each section.
+    pub tags: &'a mut [u16],
+    /// The numbers of each section, in a row.
+    pub slots: &'a mut [f64],
+}
+
+/// The record that answers from the last knot on.
+#[derive(Clone, Copy, Debug, PartialEq)]
+pub struct Tail {
+    /// The price.
+    pub value: f64,
+    /// The total where it starts.
+    pub total: f64,
+    /// Where it starts.
+    pub from: f64,
+}
+
+/// What a curve is beside its knots and records.
+#[derive(Clone, Copy, Debug, PartialEq)]
+pub struct Curve {
+    /// How many sections it has.
+    pub sections: usize,
+    /// Whether a constant last period was asked for.
+    pub held: bool,
+    /// Whether places outside the knots are allowed; off in a new curve.
+    pub extrapolates: bool,
+    /// What answers from the last knot on.
+    pub tail: Tail,
+}
+
+/// The sections that are kept of a curve that grows, and the node on which the last of them ended.
+#[derive(Clone, Copy, Debug, PartialEq)]
+pub struct Seam {
+    /// How many sections are kept.
+    pub count: usize,
+    /// Where the last of them ended.
+    pub node: f64,
+}
+
+/// The curve that a table grows from.
+#[derive(Clone, Copy, Debug)]
+pub struct Previous<'a> {
+    /// How many sections it has.
+    pub sections: usize,
+    /// Whether its last period was held.
+    pub held: bool,
+    /// Its tags, as they were written.
+    pub tags: &'a [u16],
+    /// Its slots, as they were written.
+    pub slots: &'a [f64],
+}
+
+/// What a sheet is handed beside its part of the table.
+#[derive(Clone, Copy, Debug, PartialEq)]
+pub struct Sheet {
+    /// The node at its first knot, if the table was cut there.
+    pub left: Option<f64>,
+    /// The node at its last knot, if the table was cut there.
+    pub right: Option<f64>,
+    /// The total before it.
+    pub start: f64,
+    /// The number of its first knot in the whole, counted from 0.
+    pub place: usize,
+}
+
+/// What a sheet answers.
+#[derive(Clone, Copy, Debug, PartialEq)]
+pub struct SheetEnd {
+    /// The total after it, where the next sheet starts.
+    pub total: f64,
+    /// What answers from the last knot on; none where another sheet goes on from there.
+    pub tail: Option<Tail>,
+}
+
+/// The answers of a build as they come back.
+struct Told {
+    sections: [usize; 1],
+    tail: [f64; 3],
+}
+
+impl Told {
+    fn new() -> Told {
+        Told {
+            sections: [0],
+            tail: [0.0; 3],
+        }
+    }
+
+    fn curve(self, held: bool) -> Curve {
+        let [sections] = self.sections;
+        let [value, total, from] = self.tail;
+        Curve {
+            sections,
+            held,
+            extrapolates: false,
+            tail: Tail { value, total, from },
+        }
+    }
+}
+
+/// Builds the curve of a table. `hold` asks for a constant last period, and a seam gives the node at its count. Refused in the
+/// order 1 to 8, 10, 11.
+pub fn build(
+    knots: &[f64],
+    averages: &[f64],
+    method: ConvexMonotone,
+    hold: bool,
+    seam: Option<Seam>,
+    buffers: Buffers<'_>,
+) -> Result<Curve, Refusal> {
+    let mut told = Told::new();
+    Refusal::told(ffi::build(
+        knots,
+        averages,
+        method,
+        hold,
+        seam,
+        buffers,
+        &mut told.sections,
+        &mut told.tail,
+    ))?;
+    Ok(told.curve(hold))
+}
+
+/// Builds the next curve of a table that grows, as [`ConvexMonotone::local_interpolate`] does. Past the first window refused by
+/// 9, then 15 for the previous curve; then as a build is.
+pub fn grow(
+    knots: &[f64],
+    averages: &[f64],
+    method: ConvexMonotone,
+    localisation: usize,
+    previous: Option<Previous<'_>>,
+    final_size: usize,
+    buffers: Buffers<'_>,
+) -> Result<Curve, Refusal> {
+    let mut told = Told::new();
+    Refusal::told(ffi::grow(
+        knots,
+        averages,
+        method,
+        localisation,
+        final_size,
+        previous,
+        buffers,
+        &mut told.sections,
+        &mut told.tail,
+    ))?;
+    Ok(told.curve(knots.len() != final_size))
+}
+
+/// Builds one sheet of a table: a part of its knots and averages, written into its place in the buffers of the whole. Sheets that
+/// are handed the whole's nodes at their cuts ([`inner_node`]) and the totals before them leave what a build of the whole leaves,
+/// in whatever order they are built. Refused in the order 16, 1 to 7, 10, 11.
+///
+/// [`inner_node`]: crate::inner_node
+pub fn sheet(
+    knots: &[f64],
+    averages: &[f64],
+    method: ConvexMonotone,
+    sheet: Sheet,
+    buffers: Buffers<'_>,
+) -> Result<SheetEnd, Refusal> {
+    let mut answer = [0.0; 4];
+    Refusal::told(ffi::sheet(
+        knots,
+        averages,
+        method,
+        sheet,
+        buffers,
+        &mut answer,
+    ))?;
+    let [after, value, total, from] = answer;
+    let tail = Tail { value, total, from };
+    Ok(SheetEnd {
+        total: after,
+        tail: sheet.right.is_none().then_some(tail),
+    })
+}
+
+/// Builds the curve of a table in sheets that end at the cuts: inner knots, counted from 0, each above the one before. What comes
+/// back and is written is what [`build`] makes with no held period and no seam. Refused by 28, then as a build is.
+pub fn build_in_sheets(
+    knots: &[f64],
+    averages: &[f64],
+    method: ConvexMonotone,
+    cuts: &[usize],
+    buffers: Buffers<'_>,
+) -> Result<Curve, Refusal> {
+    let mut told = Told::new();
+    Refusal::told(ffi::build_in_sheets(
+        knots,
+        averages,
+        method,
+        cuts,
+        buffers,
+        &mut told.sections,
+        &mut told.tail,
+    ))?;
+    Ok(told.curve(false))
+}
+
+/// The price at `x`. Refused in the order 4, 5, 7, 10, 11, 12, 13, 15.
+pub fn value(
+    knots: &[f64],
+    curve: &Curve,
+    tags: &[u16],
+    slots: &[f64],
+    x: f64,
+) -> Result<f64, Refusal> {
+    let mut answer = [0.0];
+    Refusal::told(ffi::value(knots, tags, slots, curve, x, &mut answer))?;
+    Ok(answer[0])
+}
+
+/// The total of all prices up to `x`, refused as [`value`] is.
+pub fn primitive(
+    knots: &[f64],
+    curve: &Curve,
+    tags: &[u16],
+    slots: &[f64],
+    x: f64,
+) -> Result<f64, Refusal> {
+    let mut answer = [0.0];
+    Refusal::told(ffi::primitive(knots, tags, slots, curve, x, &mut answer))?;
+    Ok(answer[0])
+}
+
+/// The method has no derivative, and this is always refused.
+pub fn derivative(x: f64) -> Result<f64, Refusal> {
+    // The library has no number to answer with: this is its own refusal.
+    Err(Refusal::told(ffi::derivative(x))
+        .err()
+        .unwrap_or(Refusal::DerivativeAsked))
+}
+
+/// The slots of one section, counted from 0. Refused in the order 4, 10, 11, 15.
+pub fn record(points: usize, slots: &[f64], number: usize) -> Result<[f64; SLOTS], Refusal> {
+    let mut into = [0.0; SLOTS];
+    Refusal::told(ffi::record(points, slots, number, &mut into))?;
+    Ok(into)
+}

@@ -1,0 +1,69 @@
+//! Why a call was refused.
+
+use std::error::Error;
+use std::fmt;
+
+macro_rules! refusals {
+    ($($name:ident = $number:literal, $text:literal;)*) => {
+        /// Why a call was refused: the first reason in the order of the call. A refused call has written nothing.
+        #[derive(Clone, Copy, Debug, PartialEq, Eq, Hash)]
+        #[non_exhaustive]
+        #[repr(u8)]
+        pub enum Refusal {
+            $(#[doc = $text] $name = $number,)*
+        }
+
+        impl Refusal {
+            /// What was wrong, in plain words.
+            pub fn text(self) -> &'static str {
+                match self {
+                    $(Refusal::$name => $text,)*
+                }
+            }
+
+            /// A call's own number: 0 is no refusal.
+            pub(crate) fn told(number: u8) -> Result<(), Refusal> {
+                match number {
+                    0 => Ok(()),
+                    $($number => Err(Refusal::$name),)*
+                    _ => unreachable!("a call of the library answered {number}, which is no refusal's number"),
+                }
+            }
+        }
+    };
+}
+
+refusals! {
+    LengthsDiffer = 1, "there are not as many averages as knots";
+    MonotonicityOutside = 2, "the monotonicity is not a number from 0 to 1";
+    QuadraticityOutside = 3, "the quadraticity is not a number from 0 to 1";
+    TooFewPoints = 4, "there are fewer than two points";
+    KnotNotFinite = 5, "a knot is infinite or not a number";
+    AverageNotFinite = 6, "an average is infinite or not a number";
+    KnotsNotRising = 7, "a knot is not above the one before it";
+    SeamTooLong = 8, "more sections are kept than leave a period to build";
+    NoPreviousCurve = 9, "past the first window a curve grows from a previous one, and there is none";
+    TooManyPoints = 10, "there are more than 4096 points";
+    BufferTooShort = 11, "a buffer is too short for what is to be written or read";
+    QueryNotANumber = 12, "the place that is asked for is not a number";
+    QueryOutside = 13, "the place that is asked for lies outside the knots, and extrapolation is off";
+    DerivativeAsked = 14, "the method has no derivative";
+    RecordNotLegal = 15, "a section's record is none that the method makes, or there is no such section";
+    NoGivenNode = 16, "a sheet is given a node at one of its ends at least, and this one has none";
+    CutsNotInner = 28, "a cut is not an inner knot of the table, or not above the cut before it";
+}
+
+impl Refusal {
+    /// The number by which every program knows this refusal.
+    pub fn number(self) -> u8 {
+        self as u8
+    }
+}
+
+impl fmt::Display for Refusal {
+    fn fmt(&self, f: &mut fmt::Formatter<'_>) -> fmt::Result {
+        write!(f, "{} (refusal {})", self.text(), self.number())
+    }
+}
+
+impl Error for Refusal {}
