@@ -31,7 +31,7 @@ fn main() {
     let (Ok(mut text), true) = (fs::read_to_string(&convex), cubic.is_file()) else {
         return;
     };
-    for part in ["telling.rs", "making.rs"] {
+    for part in ["telling.rs", "making.rs", "reading.rs"] {
         let part = here.join("src/probe").join(part);
         text.push('\n');
         text += &fs::read_to_string(part).expect("the probe can be read");

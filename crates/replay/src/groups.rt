@@ -1,166 +1,199 @@
 // The lines about one section or one curve: first how it is made, then its records, then what it answers.
-use crate::curves;
-use crate::queries;
-use crate::records;
-use crate::sections;
-use crate::sections::Made;
 use crate::seen::Seen;
-use crate::tables;
-use crate::tables::Kept;
-use crate::tables::Outcome;
-use crate::words::MOST;
+use answers::curves;
+use answers::cuts;
+use answers::cuts::Cut;
+use answers::growths;
+use answers::kept;
+use answers::kept::Kept;
+use answers::kept::Outcome;
+use answers::queries;
+use answers::records;
+use answers::records::Record;
+use answers::roots;
+use answers::sections;
+use answers::tables;
 use curve::curve::Curve;
-use record::reading::Found;
-use section::section::Section;
+use lines::words::MOST;
 
-// What the next lines are about. Once a section's record is seen, the one that was read back from it is asked. Of a curve so many lines were
-// seen: they come in one order, a record to each section, what lies beyond, the nodes.
+// What the next lines are about: a section whose record is not told yet, or that is asked; an outcome that is not told yet; a curve of which so many
+// records were told, one whose end was told too, or one that is told whole and is asked.
 pub enum Subject {
     Nothing,
-    Made(Section),
-    ReadBack(Section),
-    Built(Outcome),
+    Made,
+    ReadBack,
+    Outcome,
     Curve(Curve, usize),
+    Ended(Curve),
+    Whole(Curve),
 }
 
-// What was kept of the last build counts while the subject is that build or its curve.
+// The record counts while the subject is its section. What is kept of the last table is grown from, whatever sound line came since, until it is forgotten.
 pub struct State {
     pub seen: Seen,
     pub subject: Subject,
+    pub record: Record,
     pub kept: Kept,
 }
 
 impl State {
     pub fn first() -> Self {
         let seen = Seen::none();
-        let kept = tables::none();
+        let record = records::none();
+        let kept = kept::none();
         Self {
             seen,
             subject: Subject::Nothing,
+            record,
             kept,
         }
+    }
+
+    fn with(self, seen: Seen, subject: Subject) -> Self {
+        let record = self.record;
+        let kept = self.kept;
+        Self {
+            seen,
+            subject,
+            record,
+            kept,
+        }
+    }
+
+    fn with_kept(self, seen: Seen, subject: Subject, kept: Kept) -> Self {
+        let record = self.record;
+        Self {
+            seen,
+            subject,
+            record,
+            kept,
+        }
+    }
+
+    // No section and no curve is kept.
+    pub fn forget(self) -> Self {
+        let seen = self.seen;
+        self.with_kept(seen, Subject::Nothing, kept::none())
     }
 
     // A line that tells nothing, after which no section and no curve is trusted either.
     pub fn strange_line(self) -> Self {
-        let old = self.seen;
-        let kept = self.kept;
-        let seen = old.strange_line();
-        Self {
-            seen,
-            subject: Subject::Nothing,
-            kept,
-        }
+        let seen = self.seen;
+        self.with_kept(seen.strange_line(), Subject::Nothing, kept::none())
+    }
+
+    pub fn root(self, words: &[u64; MOST]) -> Self {
+        let seen = self.seen;
+        let subject = self.subject;
+        self.with(seen.root(roots::agrees(words[0], words[1])), subject)
     }
 
     pub fn section(self, words: &[u64; MOST], count: usize) -> Self {
-        match sections::of_words(words, count) {
-            Made::Nothing => self.strange_line(),
-            Made::Section(section) => {
-                let old = self.seen;
-                let kept = self.kept;
-                let seen = old.section(section);
-                State {
-                    seen,
-                    subject: Subject::Made(section),
-                    kept,
-                }
-            }
+        let record = sections::of_words(words, count);
+        if record.tag == 0 {
+            return self.strange_line();
+        }
+        let seen = self.seen;
+        let kept = self.kept;
+        let seen = seen.section(record.tag);
+        State {
+            seen,
+            subject: Subject::Made,
+            record,
+            kept,
         }
     }
 
     pub fn record(self, words: &[u64; MOST]) -> Self {
         let subject = self.subject;
         match subject {
-            Subject::Made(section) => self.section_record(section, words),
+            Subject::Made => self.section_record(words),
             Subject::Curve(made, lines) => self.curve_record(made, lines, words),
-            Subject::ReadBack(_) => self.strange_line(),
-            Subject::Built(_) => self.strange_line(),
+            Subject::ReadBack => self.strange_line(),
+            Subject::Outcome => self.strange_line(),
+            Subject::Ended(_) => self.strange_line(),
+            Subject::Whole(_) => self.strange_line(),
             Subject::Nothing => self.strange_line(),
         }
     }
 
-    // A record that cannot be read back is a mismatch, whatever else it agrees in.
-    fn section_record(self, section: Section, words: &[u64; MOST]) -> Self {
-        let old = self.seen;
-        let kept = self.kept;
-        match records::read_back(section) {
-            Found::Illegal => {
-                let seen = old.record(false);
-                State {
-                    seen,
-                    subject: Subject::Nothing,
-                    kept,
-                }
-            }
-            Found::Section(back) => {
-                let seen = old.record(records::agrees(section, words));
-                State {
-                    seen,
-                    subject: Subject::ReadBack(back),
-                    kept,
-                }
-            }
-        }
+    fn section_record(self, words: &[u64; MOST]) -> Self {
+        let seen = self.seen;
+        let tag = self.record.tag;
+        let slots = self.record.slots;
+        self.with(
+            seen.record(records::agrees(tag, &slots, words)),
+            Subject::ReadBack,
+        )
     }
 
     pub fn query(self, words: &[u64; MOST]) -> Self {
         let subject = self.subject;
-        let Subject::ReadBack(section) = subject else {
+        let Subject::ReadBack = subject else {
             return self.strange_line();
         };
-        let old = self.seen;
-        let kept = self.kept;
-        let seen = old.query(queries::agrees(section, words[0], words[1], words[2]));
-        State {
-            seen,
+        let seen = self.seen;
+        let record = self.record;
+        self.with(
+            seen.query(queries::agrees(record, words[0], words[1], words[2])),
             subject,
-            kept,
-        }
+        )
     }
 
-    pub fn table(self, words: &[u64; MOST], count: usize) -> Self {
-        let kept = tables::of_words(words, count);
+    fn outcome(self, kept: Kept) -> Self {
         let outcome = kept.outcome;
         if let Outcome::Nothing = outcome {
             return self.strange_line();
         }
-        let old = self.seen;
-        let seen = old.build();
-        State {
-            seen,
-            subject: Subject::Built(outcome),
-            kept,
-        }
+        let seen = self.seen;
+        self.with_kept(seen.curve(kept.grown), Subject::Outcome, kept)
     }
 
-    pub fn build(self, words: &[u64; MOST]) -> Self {
+    // What the sheets of a table came to, where it was cut.
+    fn cut(self, found: Cut) -> Self {
+        if !found.cut {
+            return self;
+        }
+        let seen = self.seen;
         let subject = self.subject;
-        let Subject::Built(outcome) = subject else {
+        self.with(seen.cut(found.refused, found.agrees), subject)
+    }
+
+    pub fn table(self, words: &[u64; MOST], count: usize) -> Self {
+        let kept = tables::of_words(words, count);
+        self.cut(cuts::of_words(words, count, kept)).outcome(kept)
+    }
+
+    pub fn growth(self, words: &[u64; MOST], count: usize) -> Self {
+        let last = self.kept;
+        self.outcome(growths::of_words(words, count, last))
+    }
+
+    pub fn told(self, words: &[u64; MOST]) -> Self {
+        let subject = self.subject;
+        let Subject::Outcome = subject else {
             return self.strange_line();
         };
-        let old = self.seen;
+        let seen = self.seen;
         let kept = self.kept;
-        let seen = old.told(words[0] != 0, curves::went(outcome, words));
-        State {
-            seen,
-            subject: curve_in(outcome),
-            kept,
-        }
+        let outcome = kept.outcome;
+        let grown = kept.grown;
+        self.with(
+            seen.told(grown, words[0] != 0, curves::went(outcome, words)),
+            curve_in(outcome),
+        )
     }
 
     fn curve_record(self, made: Curve, lines: usize, words: &[u64; MOST]) -> Self {
         if made.sections <= lines {
             return self.strange_line();
         }
-        let old = self.seen;
+        let seen = self.seen;
         let kept = self.kept;
-        let seen = old.curve_record(curves::record_agrees(kept, lines, words));
-        State {
-            seen,
-            subject: Subject::Curve(made, lines + 1),
-            kept,
-        }
+        self.with(
+            seen.curve_record(kept.grown, curves::record_agrees(kept, lines, words)),
+            Subject::Curve(made, lines + 1),
+        )
     }
 
     pub fn tail(self, words: &[u64; MOST]) -> Self {
@@ -168,62 +201,50 @@ impl State {
         let Subject::Curve(made, lines) = subject else {
             return self.strange_line();
         };
-        let old = self.seen;
-        let kept = self.kept;
-        let knots = kept.knots;
-        // There is one knot more than sections.
-        if knots <= lines || lines != made.sections {
+        if lines != made.sections {
             return self.strange_line();
         }
-        let seen = old.curve_line(curves::tail_agrees(made, words));
-        State {
-            seen,
-            subject: Subject::Curve(made, knots),
-            kept,
-        }
+        let seen = self.seen;
+        self.with(
+            seen.curve_line(curves::tail_agrees(made, words)),
+            Subject::Ended(made),
+        )
     }
 
     pub fn nodes(self, words: &[u64; MOST], count: usize) -> Self {
         let subject = self.subject;
-        let Subject::Curve(made, lines) = subject else {
+        let Subject::Ended(made) = subject else {
             return self.strange_line();
         };
-        let old = self.seen;
         let kept = self.kept;
-        if count != kept.knots || lines != count {
+        if count != kept.knots {
             return self.strange_line();
         }
-        if MOST < count {
-            return self.strange_line();
-        }
-        let seen = old.curve_line(curves::nodes_agree(kept, words));
-        State {
-            seen,
-            subject: Subject::Curve(made, count + 1),
-            kept,
-        }
+        let seen = self.seen;
+        self.with(
+            seen.curve_line(curves::nodes_agree(kept, words)),
+            Subject::Whole(made),
+        )
     }
 
     pub fn curve_query(self, words: &[u64; MOST]) -> Self {
         let subject = self.subject;
-        let Subject::Curve(made, lines) = subject else {
+        let Subject::Whole(made) = subject else {
             return self.strange_line();
         };
-        let old = self.seen;
-        let kept = self.kept;
-        if lines <= kept.knots || 1 < words[0] {
+        if 1 < words[0] {
             return self.strange_line();
         }
-        let seen = old.curve_query(curves::answers(kept, made, words));
-        State {
-            seen,
+        let seen = self.seen;
+        let kept = self.kept;
+        self.with(
+            seen.curve_query(kept.grown, curves::answers(kept, made, words)),
             subject,
-            kept,
-        }
+        )
     }
 }
 
-// A refused build leaves no curve to tell or to ask.
+// A refusal leaves no curve to tell or to ask.
 fn curve_in(outcome: Outcome) -> Subject {
     match outcome {
         Outcome::Curve(made) => Subject::Curve(made, 0),

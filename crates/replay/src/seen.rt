@@ -1,20 +1,32 @@
 // What a file of answers has shown so far.
-use section::section::Section;
 ghost use Prim.Native.Nat.{_<_};
 
 // The nine kinds, of which two are split or not.
 pub const KINDS: usize = 11;
+
+// What was seen of the curves that were built, or of those that were grown.
+pub struct Curves {
+    pub asked: u64,
+    pub refused: u64,
+    pub made: u64,
+    pub records: u64,
+    pub queries: u64,
+}
+
+// What was seen of the tables that were built in sheets too.
+pub struct Sheets {
+    pub made: u64,
+    pub refused: u64,
+}
 
 pub struct Seen {
     pub roots: u64,
     pub sections: [u64; KINDS],
     pub records: u64,
     pub queries: u64,
-    pub builds: u64,
-    pub refused: u64,
-    pub curves: u64,
-    pub curve_records: u64,
-    pub curve_queries: u64,
+    pub built: Curves,
+    pub grown: Curves,
+    pub sheets: Sheets,
     pub strange: u64,
     pub mismatches: u64,
 }
@@ -27,41 +39,92 @@ fn more(n: u64) -> u64 {
     n
 }
 
-// Where a kind is counted; the split ones stand behind the others.
-fn kind_of(section: Section) -> usize
+// Where a kind is counted, by its tag; the split ones stand behind the others.
+fn kind_of(tag: u16) -> usize
     ensures { λ r. ⌜ r < 11 ⌝ }
 {
-    match section {
-        Section::EverywhereConstant(_) => 0,
-        Section::ConstantGrad(_) => 1,
-        Section::ConvexMonotone2(_) => 2,
-        Section::ConvexMonotone3(_) => 3,
-        Section::ConvexMonotone4(_) => 4,
-        Section::ConvexMonotone4Min(s) => {
-            let split = s.split_region;
-            if split { 9 } else { 5 }
+    match tag {
+        0x0100 => 0,
+        0x0200 => 1,
+        0x0300 => 2,
+        0x0400 => 3,
+        0x0500 => 4,
+        0x0600 => 5,
+        0x0680 => 9,
+        0x2000 => 6,
+        0x4000 => 7,
+        0x5000 => 10,
+        _ => 8,
+    }
+}
+
+impl Curves {
+    fn none() -> Self {
+        Self {
+            asked: 0,
+            refused: 0,
+            made: 0,
+            records: 0,
+            queries: 0,
         }
-        Section::Quadratic(_) => 6,
-        Section::QuadraticMin(s) => {
-            let split = s.split_region;
-            if split { 10 } else { 7 }
+    }
+
+    fn asked(mut self) -> Self {
+        self.asked = more(self.asked);
+        self
+    }
+
+    fn told(mut self, refused: bool) -> Self {
+        if refused {
+            self.refused = more(self.refused);
+        } else {
+            self.made = more(self.made);
         }
-        Section::Combination(_) => 8,
+        self
+    }
+
+    fn record(mut self) -> Self {
+        self.records = more(self.records);
+        self
+    }
+
+    fn query(mut self) -> Self {
+        self.queries = more(self.queries);
+        self
+    }
+}
+
+impl Sheets {
+    fn none() -> Self {
+        Self {
+            made: 0,
+            refused: 0,
+        }
+    }
+
+    fn cut(mut self, refused: bool) -> Self {
+        if refused {
+            self.refused = more(self.refused);
+        } else {
+            self.made = more(self.made);
+        }
+        self
     }
 }
 
 impl Seen {
     pub fn none() -> Self {
+        let built = Curves::none();
+        let grown = Curves::none();
+        let sheets = Sheets::none();
         Self {
             roots: 0,
             sections: [0; KINDS],
             records: 0,
             queries: 0,
-            builds: 0,
-            refused: 0,
-            curves: 0,
-            curve_records: 0,
-            curve_queries: 0,
+            built,
+            grown,
+            sheets,
             strange: 0,
             mismatches: 0,
         }
@@ -79,8 +142,8 @@ impl Seen {
         self.judged(agrees)
     }
 
-    pub fn section(mut self, section: Section) -> Self {
-        let kind = kind_of(section);
+    pub fn section(mut self, tag: u16) -> Self {
+        let kind = kind_of(tag);
         let n = self.sections[kind];
         self.sections[kind] = more(n);
         self
@@ -96,24 +159,44 @@ impl Seen {
         self.judged(agrees)
     }
 
-    pub fn build(mut self) -> Self {
-        self.builds = more(self.builds);
+    fn curves(self, grown: bool) -> Curves {
+        let ones = self.grown;
+        let others = self.built;
+        if grown {
+            return ones;
+        }
+        others
+    }
+
+    fn with_curves(mut self, grown: bool, curves: Curves) -> Self {
+        if grown {
+            self.grown = curves;
+        } else {
+            self.built = curves;
+        }
         self
     }
 
-    // What is told of a build: a refusal or a curve.
-    pub fn told(mut self, refused: bool, agrees: bool) -> Self {
-        if refused {
-            self.refused = more(self.refused);
-        } else {
-            self.curves = more(self.curves);
-        }
+    // A table that was built in sheets too: whether it was refused, and whether they came to what the whole did.
+    pub fn cut(mut self, refused: bool, agrees: bool) -> Self {
+        let sheets = self.sheets;
+        self.sheets = sheets.cut(refused);
         self.judged(agrees)
     }
 
-    pub fn curve_record(mut self, agrees: bool) -> Self {
-        self.curve_records = more(self.curve_records);
-        self.judged(agrees)
+    pub fn curve(self, grown: bool) -> Self {
+        self.with_curves(grown, self.curves(grown).asked())
+    }
+
+    // What is told of a build or a growth: a refusal or a curve.
+    pub fn told(self, grown: bool, refused: bool, agrees: bool) -> Self {
+        self.with_curves(grown, self.curves(grown).told(refused))
+            .judged(agrees)
+    }
+
+    pub fn curve_record(self, grown: bool, agrees: bool) -> Self {
+        self.with_curves(grown, self.curves(grown).record())
+            .judged(agrees)
     }
 
     // A line about a curve that is counted by another.
@@ -121,9 +204,9 @@ impl Seen {
         self.judged(agrees)
     }
 
-    pub fn curve_query(mut self, agrees: bool) -> Self {
-        self.curve_queries = more(self.curve_queries);
-        self.judged(agrees)
+    pub fn curve_query(self, grown: bool, agrees: bool) -> Self {
+        self.with_curves(grown, self.curves(grown).query())
+            .judged(agrees)
     }
 
     pub fn strange_line(mut self) -> Self {

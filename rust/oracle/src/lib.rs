@@ -11,6 +11,7 @@ mod recipe;
 mod record;
 mod refusal;
 mod settings;
+mod totals;
 pub mod words;
 
 // The text names these under `crate::`.
@@ -39,17 +40,20 @@ pub use absent::plain;
 #[cfg(false)]
 mod probe {
     mod making;
+    mod reading;
     mod telling;
 }
 
 pub use judge::{
     Curve, Section, build, build_with, combination_accepts, default_settings, grow, section,
+    section_of,
 };
 pub use nodes::nodes;
 pub use recipe::{Convex, Quadratic, Recipe};
 pub use record::{Record, SLOTS, legal_tags};
 pub use refusal::Refusal;
 pub use settings::{Seam, Settings};
+pub use totals::totals;
 
 /// Whether the original's text was found when this crate was built.
 pub const AT_HAND: bool = cfg!(original);

@@ -7,7 +7,13 @@ use oracle::asking::Asked;
 use oracle::{answers, legal_tags, words};
 
 fn whole() -> String {
-    answers::roots().lines + &answers::sections().lines + &answers::curves().lines
+    let parts = [
+        answers::roots(),
+        answers::sections(),
+        answers::curves(),
+        answers::growth(),
+    ];
+    parts.map(|part| part.lines).concat()
 }
 
 #[test]
@@ -31,7 +37,7 @@ fn every_line_keeps_the_format() {
             assert!(word == "0" || !word.starts_with('0'), "{line}");
             count += 1;
         }
-        assert!(rest.starts_with(' '), "{line}");
+        assert!(rest.starts_with(' ') || letter == "f", "{line}");
         match letter {
             "r" => assert_eq!(count, 2),
             "s" => assert!((4..=17).contains(&count), "{line}"),
@@ -39,6 +45,8 @@ fn every_line_keeps_the_format() {
             "x" | "e" => assert_eq!(count, 3),
             // As many as 32 points have.
             "c" => assert!((6..=72).contains(&count), "{line}"),
+            "g" => assert!((7..=71).contains(&count), "{line}"),
+            "f" => assert_eq!(rest, ""),
             "b" => assert_eq!(count, 2),
             "n" => assert!((2..=32).contains(&count), "{line}"),
             "a" => assert_eq!(count, 5),
@@ -46,10 +54,10 @@ fn every_line_keeps_the_format() {
         }
         let follows = match letter {
             "t" => ["s", "b", "t"].contains(&before),
-            "b" => before == "c",
+            "b" => ["c", "g"].contains(&before),
             "e" => before == "t",
             "n" => before == "e",
-            _ => !["s", "c", "t", "e"].contains(&before) || (before, letter) == ("t", "x"),
+            _ => !["s", "c", "g", "t", "e"].contains(&before) || (before, letter) == ("t", "x"),
         };
         assert!(follows, "{letter} after {before}");
         before = letter;
@@ -97,6 +105,94 @@ fn curves_have_every_kind_and_every_refusal() {
     assert!(told(&curves, "a", 3).into_iter().eq([0, 12, 13]));
 }
 
+/// A growth's words, its refusal, and the lines that tell its curve.
+struct Growth<'a> {
+    words: Vec<&'a str>,
+    refusal: u64,
+    told: &'a str,
+}
+
+impl Growth<'_> {
+    fn count(&self, place: usize) -> u64 {
+        words::read(self.words[place]).expect("a word")
+    }
+
+    fn in_window(&self) -> bool {
+        self.count(3) + 1 == self.count(5)
+    }
+
+    fn held(&self) -> bool {
+        self.count(4) != self.count(5)
+    }
+
+    /// What a build of the same table tells, with no curve before it.
+    fn built(&self) -> String {
+        let (words, hold) = (&self.words, u8::from(self.held()));
+        let lists = words[5..].join(" ");
+        let request = format!(
+            "build {} {hold} {} {} {lists}",
+            words[0], words[1], words[2]
+        );
+        Asked::default().answer(&request).expect("a request")
+    }
+}
+
+fn growths(lines: &str) -> Vec<Growth<'_>> {
+    let mut growths = Vec::new();
+    let starts = lines.match_indices("\ng ").map(|(at, _)| at + 1);
+    for start in std::iter::once(0).chain(starts) {
+        let (line, rest) = lines[start..].split_once('\n').expect("an answer");
+        let ends = ["\na ", "\ng ", "\nc ", "\nf\n"].map(|next| rest.find(next));
+        let end = ends
+            .into_iter()
+            .flatten()
+            .min()
+            .map_or(rest.len(), |at| at + 1);
+        let told = &rest[..end];
+        let refusal = told.split(' ').nth(1).and_then(words::read);
+        growths.push(Growth {
+            words: line.split(' ').skip(1).collect(),
+            refusal: refusal.expect("a refusal or 0"),
+            told,
+        });
+    }
+    growths
+}
+
+#[test]
+fn growths_are_of_every_sort() {
+    let lines = answers::growth().lines;
+    let growths = growths(&lines);
+    let of = |window: bool| growths.iter().filter(move |g| g.in_window() == window);
+    let refusals = |window| of(window).map(|g| g.refusal).collect::<BTreeSet<u64>>();
+    assert!(refusals(true).into_iter().eq(0..=7));
+    assert!(refusals(false).into_iter().eq(0..=9));
+
+    // Windows that make a curve, by points and by whether it is held.
+    let made = |window| of(window).filter(|g| g.refusal == 0);
+    let windows: BTreeSet<_> = made(true).map(|g| (g.count(5), g.held())).collect();
+    let wanted = [
+        (2, true),
+        (2, false),
+        (3, false),
+        (4, true),
+        (6, false),
+        (9, true),
+    ];
+    assert!(
+        wanted.iter().all(|window| windows.contains(window)),
+        "{windows:?}"
+    );
+    let grown: BTreeSet<_> = made(false).map(|g| g.count(5)).collect();
+    assert!(grown.into_iter().eq(2..=12));
+
+    // In a first window nothing is carried over; past it what is carried over
+    // shows in most curves.
+    assert!(made(true).all(|g| g.built() == g.told));
+    let other = made(false).filter(|g| g.built() != g.told).count();
+    assert!(2 * other > made(false).count(), "{other} curves");
+}
+
 /// Asking again by the request lines gives the file back.
 #[test]
 fn asking_gives_the_same_lines() {
@@ -116,6 +212,11 @@ fn asking_gives_the_same_lines() {
                 again += &format!("{line}\n");
                 format!("build {}", words[1..].join(" "))
             }
+            "g" => {
+                again += &format!("{line}\n");
+                format!("grow {}", words[1..].join(" "))
+            }
+            "f" => String::from("forget"),
             "a" => {
                 let request = format!("query {} {}", words[1], words[2]);
                 let answer = asked.answer(&request).expect("a request");

@@ -3,7 +3,7 @@
 
 use std::collections::BTreeSet;
 
-use oracle::{Convex, Quadratic, Recipe, Record, SLOTS, legal_tags, section, words};
+use oracle::{Convex, Quadratic, Recipe, Record, SLOTS, legal_tags, section, section_of, words};
 
 /// The whole record: what stands in the two parts, and +0.0 elsewhere.
 fn check(recipe: Recipe, tag: u16, weight: f64, quadratic: &[f64], other: &[f64]) {
@@ -123,7 +123,33 @@ fn kinds_are_told_apart() {
         let read: Vec<u64> = line.split_whitespace().filter_map(words::read).collect();
         let again = Recipe::read(&read).expect("a recipe reads back");
         assert!(section(&again).record().same(&record));
+        let back = section_of(&record).expect("a section's own record");
+        assert!(back.record().same(&record));
     }
     assert_eq!(tags, legal_tags());
     assert_eq!(BTreeSet::from_iter(tags).len(), 25);
+}
+
+/// Any numbers can stand behind a legal tag, and they are read where they stand; no other tag is read.
+#[test]
+fn records_of_any_numbers_are_read() {
+    let slots = std::array::from_fn(|place| f64::from(place as u32) - 7.5);
+    let legal = legal_tags();
+    for tag in 0..=u16::MAX {
+        let record = Record { tag, slots };
+        let Some(read) = section_of(&record) else {
+            assert!(!legal.contains(&tag), "tag {tag:04x}");
+            continue;
+        };
+        assert!(legal.contains(&tag), "tag {tag:04x}");
+        let told = read.record();
+        assert_eq!(told.tag, tag);
+        // A slot is told as it was given, unused ones as 0; a weight is kept by a combination alone.
+        for (place, (told, given)) in told.slots.into_iter().zip(slots).enumerate() {
+            let unused = place == 0 || told == 0.0;
+            assert!(told == given || unused, "tag {tag:04x}, slot {place}");
+        }
+        let combined = tag & 0xf000 != 0 && tag & 0x0f00 != 0;
+        assert!(!combined || told.slots[0] == slots[0]);
+    }
 }

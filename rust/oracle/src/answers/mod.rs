@@ -2,10 +2,13 @@
 //! machine: the generator is seeded and takes exact steps only.
 
 mod curves;
+mod growth;
 mod queries;
 pub mod rng;
 mod roots;
 mod sections;
+mod tables;
+mod told;
 
 /// Lines to be replayed, and what they hold.
 pub struct Answers {
@@ -29,4 +32,9 @@ pub fn sections() -> Answers {
 /// The curves: lines `c`, `b`, `t`, `e`, `n` and `a`.
 pub fn curves() -> Answers {
     curves::write()
+}
+
+/// The growths: lines `g`, `b`, `t`, `e`, `n`, `a` and `f`, and some `c`.
+pub fn growth() -> Answers {
+    growth::write()
 }

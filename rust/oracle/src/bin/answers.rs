@@ -14,12 +14,18 @@ fn main() -> io::Result<ExitCode> {
     let wanted: Vec<String> = std::env::args().skip(1).collect();
     let wanted: Vec<&str> = wanted.iter().map(String::as_str).collect();
     let parts: Vec<Answers> = match wanted[..] {
-        [] => vec![answers::roots(), answers::sections(), answers::curves()],
+        [] => vec![
+            answers::roots(),
+            answers::sections(),
+            answers::curves(),
+            answers::growth(),
+        ],
         ["roots"] => vec![answers::roots()],
         ["sections"] => vec![answers::sections()],
         ["curves"] => vec![answers::curves()],
+        ["growth"] => vec![answers::growth()],
         _ => {
-            eprintln!("answers [roots | sections | curves]");
+            eprintln!("answers [roots | sections | curves | growth]");
             return Ok(ExitCode::FAILURE);
         }
     };
