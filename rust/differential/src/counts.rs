@@ -1,0 +1,221 @@
+//! How often what occurred.
+
+use std::fmt::{self, Display, Formatter};
+
+use oracle::legal_tags;
+
+/// Refusal numbers that curves, records and sheets can meet.
+const REFUSALS: [u8; 17] = [
+    1,
+    2,
+    3,
+    4,
+    5,
+    6,
+    7,
+    8,
+    9,
+    10,
+    11,
+    12,
+    13,
+    14,
+    15,
+    16,
+    CUTS_NOT_INNER,
+];
+
+/// The largest of them.
+pub const CUTS_NOT_INNER: u8 = 28;
+
+#[derive(Clone)]
+pub struct Counts {
+    pub cases: u64,
+    pub builds: u64,
+    pub steps: u64,
+    pub queries: u64,
+    pub sections: u64,
+    pub records: u64,
+    pub roots: u64,
+    /// Tables of the largest sizes, and what the original can't be asked.
+    pub largest: u64,
+    pub largest_seam: u64,
+    pub largest_window: u64,
+    /// Tables that were cut, those of the largest sizes and those of which every sheet was accepted; sheets, and those accepted.
+    pub cut: u64,
+    pub cut_largest: u64,
+    pub cut_whole: u64,
+    pub sheets: u64,
+    pub sheets_accepted: u64,
+    refused: [u64; CUTS_NOT_INNER as usize + 1],
+    /// Sections of curves, and sections by themselves, by the upper bits of their tags.
+    built: [u64; 512],
+    single: [u64; 512],
+}
+
+/// What a section is counted as: all bits of one of the masks' parts.
+const KINDS: [(&str, u16, u16); 11] = [
+    ("EverywhereConstant", 0xff80, 0x0100),
+    ("ConstantGrad", 0xff80, 0x0200),
+    ("ConvexMonotone2", 0x0f00, 0x0300),
+    ("ConvexMonotone3", 0x0f00, 0x0400),
+    ("ConvexMonotone4", 0x0f00, 0x0500),
+    ("ConvexMonotone4Min, whole", 0x0f80, 0x0600),
+    ("ConvexMonotone4Min, split", 0x0f80, 0x0680),
+    ("Quadratic", 0xe000, 0x2000),
+    ("QuadraticMin, whole", 0xf000, 0x4000),
+    ("QuadraticMin, split", 0xf000, 0x5000),
+    ("combination", 0, 0),
+];
+
+fn combined(tag: u16) -> bool {
+    tag & 0xf000 != 0 && tag & 0x0f00 != 0
+}
+
+impl Counts {
+    pub fn new() -> Counts {
+        Counts {
+            cases: 0,
+            builds: 0,
+            steps: 0,
+            queries: 0,
+            sections: 0,
+            records: 0,
+            roots: 0,
+            largest: 0,
+            largest_seam: 0,
+            largest_window: 0,
+            cut: 0,
+            cut_largest: 0,
+            cut_whole: 0,
+            sheets: 0,
+            sheets_accepted: 0,
+            refused: [0; CUTS_NOT_INNER as usize + 1],
+            built: [0; 512],
+            single: [0; 512],
+        }
+    }
+
+    /// A call's number, 0 where it was accepted.
+    pub fn number(&mut self, number: u8) {
+        self.refused[usize::from(number)] += 1;
+    }
+
+    pub fn built(&mut self, tag: u16) {
+        self.built[usize::from(tag >> 7)] += 1;
+    }
+
+    pub fn single(&mut self, tag: u16) {
+        self.single[usize::from(tag >> 7)] += 1;
+    }
+
+    pub fn add(&mut self, other: &Counts) {
+        for (mine, others) in [
+            (&mut self.cases, other.cases),
+            (&mut self.builds, other.builds),
+            (&mut self.steps, other.steps),
+            (&mut self.queries, other.queries),
+            (&mut self.sections, other.sections),
+            (&mut self.records, other.records),
+            (&mut self.roots, other.roots),
+            (&mut self.largest, other.largest),
+            (&mut self.largest_seam, other.largest_seam),
+            (&mut self.largest_window, other.largest_window),
+            (&mut self.cut, other.cut),
+            (&mut self.cut_largest, other.cut_largest),
+            (&mut self.cut_whole, other.cut_whole),
+            (&mut self.sheets, other.sheets),
+            (&mut self.sheets_accepted, other.sheets_accepted),
+        ] {
+            *mine += others;
+        }
+        for (mine, others) in [
+            (&mut self.refused[..], &other.refused[..]),
+            (&mut self.built, &other.built),
+            (&mut self.single, &other.single),
+        ] {
+            for (mine, others) in mine.iter_mut().zip(others) {
+                *mine += others;
+            }
+        }
+    }
+
+    /// How many sections of curves were of this kind.
+    fn kind(&self, mask: u16, bits: u16) -> u64 {
+        let counted = |tag: u16| match mask {
+            0 => combined(tag),
+            _ => tag & mask == bits,
+        };
+        let tags = legal_tags().into_iter().filter(|&tag| counted(tag));
+        tags.map(|tag| self.built[usize::from(tag >> 7)]).sum()
+    }
+
+    /// What should occur in any run of some length and did not.
+    pub fn missing(&self) -> Vec<String> {
+        let mut missing = Vec::new();
+        for (name, mask, bits) in KINDS {
+            if self.kind(mask, bits) == 0 {
+                missing.push(format!("no curve had a section of the kind {name}"));
+            }
+        }
+        for tag in legal_tags() {
+            if self.single[usize::from(tag >> 7)] == 0 {
+                missing.push(format!("no section by itself had the tag {tag:04x}"));
+            }
+        }
+        if self.refused[0] == 0 {
+            missing.push("no call was accepted".into());
+        }
+        for number in REFUSALS {
+            if self.refused[usize::from(number)] == 0 {
+                missing.push(format!("refusal {number} did not occur"));
+            }
+        }
+        if self.cut_whole == 0 {
+            missing.push("no table was cut with all of its sheets accepted".into());
+        }
+        if self.sheets_accepted == 0 {
+            missing.push("no sheet was accepted".into());
+        }
+        missing
+    }
+}
+
+impl Display for Counts {
+    fn fmt(&self, f: &mut Formatter<'_>) -> fmt::Result {
+        let mut row = |name: &str, count: u64| writeln!(f, "{name:<44}{count:>14}");
+        row("cases", self.cases)?;
+        row("builds, refused ones too", self.builds)?;
+        row("steps of growth, refused ones too", self.steps)?;
+        row("values and primitives asked of curves", self.queries)?;
+        row("sections made and asked by themselves", self.sections)?;
+        row("records read from curves", self.records)?;
+        row("roots", self.roots)?;
+        row("tables of 4095 points and more", self.largest)?;
+        row("seam counts of the largest number", self.largest_seam)?;
+        row("localisations of the largest number", self.largest_window)?;
+        row("tables cut into sheets, refused ones too", self.cut)?;
+        row("tables cut of 4095 points and more", self.cut_largest)?;
+        row("tables cut, all sheets accepted", self.cut_whole)?;
+        row("sheets, refused ones too", self.sheets)?;
+        row("sheets accepted", self.sheets_accepted)?;
+        row("calls accepted", self.refused[0])?;
+        for number in REFUSALS {
+            let count = self.refused[usize::from(number)];
+            row(&format!("refusal {number}"), count)?;
+        }
+        for (name, mask, bits) in KINDS {
+            row(&format!("in curves: {name}"), self.kind(mask, bits))?;
+        }
+        for tag in legal_tags() {
+            let place = usize::from(tag >> 7);
+            let (built, single) = (self.built[place], self.single[place]);
+            writeln!(
+                f,
+                "{:<44}{built:>14}, by itself {single}",
+                format!("in curves: tag {tag:04x}")
+            )?;
+        }
+        Ok(())
+    }
+}

@@ -1,0 +1,231 @@
+//! Cases of every temper, each made from the seed and its own number alone.
+
+mod growing;
+mod reading;
+mod section;
+mod sheets;
+mod tables;
+
+use havgrunel::MOST_POINTS;
+use oracle::answers::rng::Rng;
+use oracle::{Settings, legal_tags};
+
+use crate::case::{Case, Queries, Room};
+
+const LEAST: f64 = f64::from_bits(1);
+
+/// Numbers at the ends of the range and at its turns.
+const ENDS: [f64; 22] = [
+    0.0,
+    -0.0,
+    1.0,
+    -1.0,
+    1.0e-14,
+    -1.0e-14,
+    1.0e300,
+    -1.0e300,
+    1.7e308,
+    f64::MAX,
+    f64::MIN,
+    f64::MIN_POSITIVE,
+    -f64::MIN_POSITIVE,
+    LEAST,
+    -LEAST,
+    f64::from_bits(3),
+    f64::from_bits((1 << 52) - 1),
+    f64::from_bits(0x0005_5555_5555_5555),
+    f64::EPSILON,
+    f64::INFINITY,
+    f64::NEG_INFINITY,
+    f64::NAN,
+];
+
+/// How many of [`ENDS`] are finite.
+const FINITE: usize = ENDS.len() - 3;
+
+const SHARES: [f64; 12] = [
+    0.0,
+    -0.0,
+    LEAST,
+    1.0e-300,
+    f64::EPSILON,
+    0.25,
+    0.3,
+    0.5,
+    0.7,
+    1.0 - f64::EPSILON / 2.0,
+    1.0,
+    1.0,
+];
+
+const NOT_SHARES: [f64; 9] = [
+    -LEAST,
+    -1.0,
+    -1.0e300,
+    1.0 + f64::EPSILON,
+    2.0,
+    f64::INFINITY,
+    f64::NEG_INFINITY,
+    f64::NAN,
+    -f64::NAN,
+];
+
+/// The generator of one case.
+pub fn rng(seed: u64, number: u64) -> Rng {
+    let mixed = Rng::new(seed).word() ^ number;
+    Rng::new(Rng::new(mixed).word())
+}
+
+pub fn case(seed: u64, number: u64) -> Case {
+    let rng = &mut rng(seed, number);
+    match number % 18 {
+        0..=8 => tables::build(rng),
+        9..=11 => growing::growth(rng),
+        12 | 13 => reading::reading(rng),
+        14 => section::section(rng),
+        15 => section::record(rng),
+        _ => sheets::sheets(rng),
+    }
+}
+
+fn index(rng: &mut Rng, end: usize) -> usize {
+    rng.below(end as u64) as usize
+}
+
+/// A number with any bits whatever.
+fn pattern(rng: &mut Rng) -> f64 {
+    f64::from_bits(rng.word())
+}
+
+/// A finite number of any size.
+fn finite(rng: &mut Rng) -> f64 {
+    loop {
+        let x = pattern(rng);
+        if x.is_finite() {
+            return x;
+        }
+    }
+}
+
+/// How many points: few mostly, every number to 40, and sometimes around the most that are taken.
+fn points(rng: &mut Rng) -> usize {
+    match rng.below(4096) {
+        0 => MOST_POINTS - 2 + index(rng, 5),
+        1..=2 => 301 + index(rng, 3794),
+        3..=32 => 41 + index(rng, 260),
+        n if n % 2 == 0 => index(rng, 41),
+        _ => 2 + index(rng, 9),
+    }
+}
+
+fn settings(rng: &mut Rng) -> Settings {
+    let mut share = || match rng.below(3) {
+        0 => rng.unit(),
+        _ => rng.pick(&SHARES),
+    };
+    let (quadraticity, monotonicity) = (share(), share());
+    Settings {
+        quadraticity,
+        monotonicity,
+        positivity: !rng.chance(3),
+    }
+}
+
+fn room(rng: &mut Rng) -> Room {
+    match rng.below(8) {
+        0..=4 => Room::default(),
+        _ => {
+            let mut more = || rng.pick(&[0, 0, 1, 2, 24, 25]);
+            Room {
+                nodes: more(),
+                tags: more(),
+                slots: more(),
+                sections: more(),
+                tail: more(),
+            }
+        }
+    }
+}
+
+fn shorten(rng: &mut Rng, room: &mut Room) {
+    let less = rng.pick(&[-1, -1, -1, -24, -100_000]);
+    match rng.below(5) {
+        0 => room.nodes = less,
+        1 => room.tags = less,
+        2 => room.slots = less,
+        3 => room.sections = less,
+        _ => room.tail = less,
+    }
+}
+
+/// Where a curve is asked. Long ones are asked at some of their knots alone.
+fn queries(rng: &mut Rng, x: &[f64]) -> Queries {
+    let (Some(&first), Some(&last)) = (x.first(), x.last()) else {
+        return Queries::default();
+    };
+    let mut inside = Vec::new();
+    let picked = x.len().min(8);
+    for turn in 0..picked {
+        let knot = match (x.len() == picked, turn) {
+            (true, turn) => x[turn],
+            (false, 0) => first,
+            (false, 1) => last,
+            (false, 2) => x[x.len() - 2],
+            _ => rng.pick(x),
+        };
+        inside.extend([knot.next_down(), knot, knot.next_up()]);
+    }
+    for _ in 0..picked.max(4) {
+        let place = index(rng, x.len());
+        let (left, right) = (x[place.saturating_sub(1)], x[place]);
+        // Halves first, so that far ends don't overflow.
+        let share = rng.unit();
+        inside.push(left * (1.0 - share) + right * share);
+    }
+    let length = last / 2.0 - first / 2.0;
+    let mut anywhere = vec![
+        first.next_down(),
+        last.next_up(),
+        first - length * rng.unit(),
+        last + length * rng.unit(),
+        rng.between(-1.0e3, 1.0e3),
+        pattern(rng),
+        rng.pick(&ENDS),
+        rng.pick(x),
+    ];
+    for special in [0.0, -0.0, f64::INFINITY, f64::NEG_INFINITY, f64::NAN] {
+        match rng.below(4) {
+            0 => inside.push(special),
+            1 => anywhere.push(special),
+            _ => {}
+        }
+    }
+    if rng.chance(4) {
+        inside.extend_from_slice(&anywhere);
+    }
+    Queries {
+        inside,
+        anywhere,
+        breaks: true,
+    }
+}
+
+/// Any number at all, ordinary ones often.
+fn number(rng: &mut Rng) -> f64 {
+    match rng.below(4) {
+        0 => pattern(rng),
+        1 => rng.pick(&ENDS),
+        2 => rng.whole(-8, 8) / 2.0,
+        _ => rng.between(-10.0, 60.0),
+    }
+}
+
+/// A tag, legal or not.
+fn tag(rng: &mut Rng) -> u16 {
+    let legal = rng.pick(&legal_tags());
+    match rng.below(4) {
+        0 => rng.word() as u16,
+        1 => legal ^ (1 << rng.below(16)),
+        _ => legal,
+    }
+}

@@ -1,0 +1,140 @@
+//! Sections by themselves, from their arguments and from their records.
+
+use havgrunel::{SLOTS, ffi};
+use oracle::{Convex, Quadratic, Recipe, Record};
+
+use super::{Agreed, Judge, Mismatch, same_answers, same_number, same_record};
+use crate::lent::{is_old, old};
+
+impl Judge {
+    pub(super) fn section(&mut self, recipe: &Recipe, lent: usize, asked: &[f64]) -> Agreed {
+        let judged = oracle::section(recipe);
+        let record = judged.record();
+        self.counts.sections += 1;
+        self.counts.single(record.tag);
+        let mut tag = 0xa5c3;
+        let mut slots: Vec<f64> = (0..lent).map(old).collect();
+        let number = made(recipe, &mut tag, &mut slots);
+        let due = if lent < SLOTS { 11 } else { 0 };
+        self.counts.number(number);
+        same_number("a section's refusal", number, due)?;
+        let written = if due == 0 { SLOTS } else { 0 };
+        for (place, &slot) in slots.iter().enumerate().skip(written) {
+            if !is_old(place, slot) {
+                let told = format!("slot {place} of {lent} was written to");
+                return Err(Mismatch::new("a lent buffer", told));
+            }
+        }
+        if due != 0 {
+            return match tag {
+                0xa5c3 => Ok(()),
+                _ => Err(Mismatch::new(
+                    "a lent buffer",
+                    "the tag was written to".into(),
+                )),
+            };
+        }
+        same_record(tag, &slots[..SLOTS], &record, || "the section".into())?;
+        self.section_asked(tag, &slots[..SLOTS], &judged, asked)
+    }
+
+    pub(super) fn record(
+        &mut self,
+        record: &Record,
+        lent: usize,
+        entries: usize,
+        asked: &[f64],
+    ) -> Agreed {
+        let judged = oracle::section_of(record);
+        self.counts.sections += 1;
+        let due = match &judged {
+            None => 15,
+            Some(_) if lent < SLOTS => 15,
+            Some(_) if entries < 3 => 11,
+            Some(_) => 0,
+        };
+        if let (0, Some(judged)) = (due, &judged) {
+            self.counts.single(record.tag);
+            return self.section_asked(record.tag, &record.slots, judged, asked);
+        }
+        let mut answers: Vec<f64> = (0..entries).map(old).collect();
+        let slots = &record.slots[..lent.min(SLOTS)];
+        let number = ffi::section(record.tag, slots, 0.0, &mut answers);
+        self.counts.number(number);
+        same_number("a record's refusal", number, due)?;
+        for (place, &answer) in answers.iter().enumerate() {
+            if !is_old(place, answer) {
+                let told = format!("answer {place} was written to");
+                return Err(Mismatch::new("a lent buffer", told));
+            }
+        }
+        Ok(())
+    }
+
+    fn section_asked(
+        &mut self,
+        tag: u16,
+        slots: &[f64],
+        judged: &oracle::Section,
+        asked: &[f64],
+    ) -> Agreed {
+        for &x in asked {
+            let mut answers = [old(0), old(1), old(2), old(3)];
+            let number = ffi::section(tag, slots, x, &mut answers);
+            self.counts.number(number);
+            self.counts.queries += 2;
+            let here = |mut mismatch: Mismatch| {
+                mismatch.query = Some((true, x));
+                mismatch
+            };
+            same_number("a section's refusal", number, 0).map_err(here)?;
+            let due = [judged.value(x), judged.primitive(x), judged.f_next()];
+            same_answers(&answers[..3], &due, x).map_err(here)?;
+            if !is_old(3, answers[3]) {
+                let told = "answer 3 was written to".into();
+                return Err(here(Mismatch::new("a lent buffer", told)));
+            }
+        }
+        Ok(())
+    }
+}
+
+fn quadratic_made(part: &Quadratic, tag: &mut u16, slots: &mut [f64]) -> u8 {
+    let &[a, b, c, d, e, f] = part.args();
+    match part {
+        Quadratic::Plain(_) => ffi::quadratic(a, b, c, d, e, f, tag, slots),
+        Quadratic::Min(_) => ffi::quadratic_min(a, b, c, d, e, f, tag, slots),
+    }
+}
+
+fn convex_made(part: &Convex, tag: &mut u16, slots: &mut [f64]) -> u8 {
+    let &[a, b, c, d, e, f, g] = part.args();
+    match part {
+        Convex::Two(_) => ffi::convex_monotone2(a, b, c, d, e, f, g, tag, slots),
+        Convex::Three(_) => ffi::convex_monotone3(a, b, c, d, e, f, g, tag, slots),
+        Convex::Four(_) => ffi::convex_monotone4(a, b, c, d, e, f, g, tag, slots),
+        Convex::FourMin(_) => ffi::convex_monotone4_min(a, b, c, d, e, f, g, tag, slots),
+    }
+}
+
+/// The library's section. A combination is put together from two records, as the header has it.
+fn made(recipe: &Recipe, tag: &mut u16, slots: &mut [f64]) -> u8 {
+    match recipe {
+        &Recipe::Constant([a, b, c]) => ffi::everywhere_constant(a, b, c, tag, slots),
+        &Recipe::Gradient([a, b, c, d, e]) => ffi::constant_grad(a, b, c, d, e, tag, slots),
+        Recipe::Convex(part) => convex_made(part, tag, slots),
+        Recipe::Quadratic(part) => quadratic_made(part, tag, slots),
+        Recipe::Combination(weight, quadratic, convex) => {
+            let (mut other_tag, mut other) = (0, [0.0; SLOTS]);
+            let number = convex_made(convex, tag, slots);
+            if number != 0 {
+                return number;
+            }
+            let number = quadratic_made(quadratic, &mut other_tag, &mut other);
+            *tag += other_tag;
+            slots[0] = *weight;
+            slots[1..13].copy_from_slice(&other[1..13]);
+            number
+        }
+    }
+}

@@ -1,0 +1,85 @@
+//! Calls over lent buffers take no memory, so there is none to run out of.
+
+use std::alloc::{GlobalAlloc, Layout, System};
+use std::cell::Cell;
+
+use havgrunel::lent::{self, Buffers, Previous};
+use havgrunel::{ConvexMonotone, Record, sqrt};
+
+thread_local! {
+    static TAKEN: Cell<usize> = const { Cell::new(0) };
+}
+
+/// The system's allocator, counting what this thread takes.
+struct Counting;
+
+// SAFETY: every call is handed to the system's allocator as it came.
+unsafe impl GlobalAlloc for Counting {
+    unsafe fn alloc(&self, layout: Layout) -> *mut u8 {
+        TAKEN.set(TAKEN.get() + 1);
+        unsafe { System.alloc(layout) }
+    }
+
+    unsafe fn dealloc(&self, pointer: *mut u8, layout: Layout) {
+        unsafe { System.dealloc(pointer, layout) }
+    }
+}
+
+#[global_allocator]
+static COUNTING: Counting = Counting;
+
+#[test]
+fn lent_calls_take_no_memory() {
+    let (x, y) = ([0.0, 1.0, 2.0, 4.0], [0.0, 5.0, 0.5, 3.0]);
+    let method = ConvexMonotone::default();
+    let (mut nodes, mut tags, mut slots) = ([0.0; 4], [0; 3], [0.0; 72]);
+    let (mut next_nodes, mut next_tags, mut next_slots) = (nodes, tags, slots);
+    let before = TAKEN.get();
+
+    let buffers = Buffers {
+        nodes: &mut nodes,
+        tags: &mut tags,
+        slots: &mut slots,
+    };
+    let held = lent::build(&x[..3], &y[..3], method, true, None, buffers);
+    let previous = Previous {
+        sections: 2,
+        held: true,
+        tags: &tags,
+        slots: &slots,
+    };
+    let buffers = Buffers {
+        nodes: &mut next_nodes,
+        tags: &mut next_tags,
+        slots: &mut next_slots,
+    };
+    let grown = lent::grow(&x, &y, method, 2, Some(previous), 4, buffers);
+    let refused = lent::build(
+        &x,
+        &y[..3],
+        method,
+        false,
+        None,
+        Buffers {
+            nodes: &mut [],
+            tags: &mut [],
+            slots: &mut [],
+        },
+    );
+    let asked = grown.and_then(|curve| {
+        let value = lent::value(&x, &curve, &next_tags, &next_slots, 1.5)?;
+        let total = lent::primitive(&x, &curve, &next_tags, &next_slots, 1.5)?;
+        let slots = lent::record(4, &next_slots, 1)?;
+        let record = Record {
+            tag: next_tags[1],
+            slots,
+        };
+        Ok(value + total + record.value(1.5)? + sqrt(2.0))
+    });
+
+    assert_eq!(TAKEN.get(), before);
+    assert!(held.is_ok() && asked.is_ok() && refused.is_err());
+    // The count does count.
+    std::hint::black_box(Vec::<u8>::with_capacity(9));
+    assert!(TAKEN.get() > before);
+}

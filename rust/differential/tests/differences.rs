@@ -1,0 +1,183 @@
+//! The list of docs/DIFFERENCES.md, each with the smallest input that shows it.
+
+use std::panic::{self, UnwindSafe};
+
+use havgrunel::lent::{self, Buffers, Curve, Seam};
+use havgrunel::{ConvexMonotone, Record, Refusal};
+use oracle::{Convex, Quadratic, Recipe, Settings};
+
+const PLAIN: Settings = Settings {
+    quadraticity: 0.0,
+    monotonicity: 0.0,
+    positivity: false,
+};
+
+fn method() -> ConvexMonotone {
+    ConvexMonotone::new(0.0, 0.0, false)
+}
+
+/// Whether there is an original to differ from; without it only this side is looked at.
+fn at_hand() -> bool {
+    if !oracle::AT_HAND {
+        eprintln!("{}", oracle::NOT_AT_HAND);
+    }
+    oracle::AT_HAND
+}
+
+/// The original's answer, or nothing where it stopped.
+fn original<T>(call: impl FnOnce() -> T + UnwindSafe) -> Option<T> {
+    panic::catch_unwind(call).ok()
+}
+
+/// Whole numbers from 0 on.
+fn days(points: u32) -> Vec<f64> {
+    (0..points).map(f64::from).collect()
+}
+
+fn build(points: u32, seam: Option<Seam>) -> Result<Curve, Refusal> {
+    let (x, y) = (days(points), vec![0.0; points as usize]);
+    let (mut nodes, mut tags, mut slots) = (y.clone(), vec![0; x.len()], vec![0.0; 24 * x.len()]);
+    let buffers = Buffers {
+        nodes: &mut nodes,
+        tags: &mut tags,
+        slots: &mut slots,
+    };
+    lent::build(&x, &y, method(), false, seam, buffers)
+}
+
+#[test]
+fn more_than_4096_points() {
+    assert_eq!(build(4096, None).map(|curve| curve.sections), Ok(4095));
+    assert_eq!(build(4097, None), Err(Refusal::TooManyPoints));
+    if at_hand() {
+        let built = oracle::build(&PLAIN, &days(4097), &[0.0; 4097]);
+        assert_eq!(built.map(|curve| curve.sections()), Ok(4096));
+    }
+}
+
+#[test]
+fn a_seam_count_of_the_largest_number() {
+    let seam = Seam {
+        count: usize::MAX,
+        node: 0.0,
+    };
+    assert_eq!(build(2, Some(seam)), Err(Refusal::SeamTooLong));
+    assert_eq!(build(3, Some(seam)), Err(Refusal::SeamTooLong));
+    if !at_hand() {
+        return;
+    }
+    let seam = oracle::Seam {
+        count: usize::MAX,
+        f_next: 0.0,
+    };
+    let built = |points: u32| {
+        original(move || {
+            let y = vec![0.0; points as usize];
+            let built = oracle::build_with(&PLAIN, &days(points), &y, false, Some(seam));
+            built.map(|curve| curve.sections())
+        })
+    };
+    // The sum stops a debug build. A release build wraps and then builds, or reads beyond its nodes and stops.
+    let two = if cfg!(debug_assertions) {
+        None
+    } else {
+        Some(Ok(1))
+    };
+    assert_eq!(built(2), two);
+    assert_eq!(built(3), None);
+    // One less is refused on both sides.
+    let less = oracle::Seam {
+        count: usize::MAX - 1,
+        ..seam
+    };
+    let built = oracle::build_with(&PLAIN, &days(2), &[0.0; 2], false, Some(less));
+    assert_eq!(built.err(), Some(oracle::Refusal::SeamTooLong));
+}
+
+#[test]
+fn localisation_of_the_largest_number() {
+    for points in 0..3 {
+        let (x, y) = (days(points), vec![0.0; points as usize]);
+        let grown = method().local_interpolate(&x, &y, usize::MAX, None, 0);
+        assert_eq!(grown.err(), Some(Refusal::NoPreviousCurve));
+        if !at_hand() {
+            continue;
+        }
+        let grown = original(move || {
+            let grown = oracle::grow(&PLAIN, &x, &y, usize::MAX, None, 0);
+            grown.err()
+        });
+        // A release build wraps: no points are then the first window.
+        let due = match points {
+            _ if cfg!(debug_assertions) => None,
+            0 => Some(Some(oracle::Refusal::TooFewPoints)),
+            _ => Some(Some(oracle::Refusal::NoPreviousCurve)),
+        };
+        assert_eq!(grown, due);
+    }
+}
+
+#[test]
+fn the_weight_of_a_combination() {
+    let quadratic = [0.0, 1.0, 0.5, 2.0, 1.0, 0.0];
+    let convex = [0.0, 1.0, -1.0, 5.0, 2.0, 0.5, 0.0];
+    let [a, b, c, d, e, f] = quadratic;
+    let one = Record::quadratic(a, b, c, d, e, f);
+    let [a, b, c, d, e, f, g] = convex;
+    let two = Record::convex_monotone2(a, b, c, d, e, f, g);
+    for weight in [0.0, 1.0, -1.0, f64::NAN] {
+        let both = Record::combination(&one, &two, weight).expect("any weight");
+        if !at_hand() {
+            continue;
+        }
+        let stopped = original(move || oracle::combination_accepts(weight)).is_none();
+        assert_eq!(stopped, cfg!(debug_assertions));
+        let parts = (Quadratic::Plain(quadratic), Convex::Two(convex));
+        let judged = oracle::section(&Recipe::Combination(weight, parts.0, parts.1));
+        let value = both.value(0.75).expect("legal");
+        assert!(oracle::words::same(value, judged.value(0.75)));
+    }
+}
+
+/// Both are NaNs. Which bits they have is the processor's and the compiler's choice, so nothing is said of them.
+#[test]
+fn a_nan_is_a_nan() {
+    let (x, y) = ([0.0, 1.0, 2.0], [0.0, 2.0_f64.powi(1023), 0.0]);
+    let curve = method().interpolate(&x, &y).expect("builds");
+    let value = curve.record(0).expect("there").value(1.0);
+    assert!(value.expect("legal").is_nan());
+    if at_hand() {
+        let curve = oracle::build(&PLAIN, &x, &y).expect("builds");
+        assert!(curve.section_value(0, 1.0).is_nan());
+    }
+}
+
+/// The original owns its curve; these are refusals for what only lent buffers can be.
+#[test]
+fn lent_buffers_and_records() {
+    let (x, y) = ([0.0, 1.0], [0.0, 0.0]);
+    let (mut nodes, mut tags, mut slots) = ([0.0; 2], [0; 1], [0.0; 24]);
+    let buffers = Buffers {
+        nodes: &mut nodes,
+        tags: &mut tags,
+        slots: &mut slots[..23],
+    };
+    let short = lent::build(&x, &y, method(), false, None, buffers);
+    assert_eq!(short, Err(Refusal::BufferTooShort));
+    let buffers = Buffers {
+        nodes: &mut nodes,
+        tags: &mut tags,
+        slots: &mut slots,
+    };
+    let curve = lent::build(&x, &y, method(), false, None, buffers).expect("builds");
+    let ask = |x: &[f64], tags: &[u16]| lent::value(x, &curve, tags, &slots, 0.0);
+    assert_eq!(ask(&x, &tags), Ok(0.0));
+    assert_eq!(ask(&x[..1], &tags), Err(Refusal::TooFewPoints));
+    assert_eq!(
+        ask(&[0.0, f64::INFINITY], &tags),
+        Err(Refusal::KnotNotFinite)
+    );
+    assert_eq!(ask(&[0.0, 0.0], &tags), Err(Refusal::KnotsNotRising));
+    assert_eq!(ask(&x, &[]), Err(Refusal::BufferTooShort));
+    assert_eq!(ask(&x, &[0]), Err(Refusal::RecordNotLegal));
+}

@@ -1,0 +1,91 @@
+//! The program itself: short runs agree, and the same seed tells the same.
+
+use std::process::{Command, Output};
+
+fn run(words: &[&str]) -> Output {
+    let mut program = Command::new(env!("CARGO_BIN_EXE_differential"));
+    program.args(words).output().expect("the program runs")
+}
+
+fn told(words: &[&str]) -> String {
+    let output = run(words);
+    let told = String::from_utf8(output.stdout).expect("text");
+    assert!(output.status.success(), "{told}");
+    told
+}
+
+#[test]
+fn a_short_run_agrees_and_is_told_alike_twice() {
+    if !oracle::AT_HAND {
+        eprintln!("{}", oracle::NOT_AT_HAND);
+        return;
+    }
+    let words = ["--cases", "4000", "--roots", "40000", "--seed", "9"];
+    let first = told(&words);
+    assert!(first.ends_with("mismatches 0\n"), "{first}");
+    assert_eq!(first, told(&words));
+    let other = told(&["--cases", "4000", "--roots", "40000", "--seed", "10"]);
+    assert_ne!(first, other);
+}
+
+/// How often something occurred, by its line.
+fn count(told: &str, name: &str) -> u64 {
+    let line = told.lines().find_map(|line| line.strip_prefix(name));
+    let count = line.and_then(|count| count.trim().parse().ok());
+    count.unwrap_or_else(|| panic!("no count of {name} in {told}"))
+}
+
+#[test]
+fn tables_are_cut_and_a_run_without_any_fails() {
+    if !oracle::AT_HAND {
+        return;
+    }
+    let many = told(&["--cases", "9000", "--seed", "11"]);
+    let cut = count(&many, "tables cut, all sheets accepted");
+    let sheets = count(&many, "sheets accepted");
+    assert!(cut > 100 && sheets > 10 * cut, "{many}");
+    assert!(count(&many, "tables cut into sheets, refused ones too") > cut);
+    assert!(count(&many, "sheets, refused ones too") > sheets);
+    for refusal in ["refusal 16", "refusal 28"] {
+        assert!(count(&many, refusal) > 0, "{many}");
+    }
+
+    let output = run(&["--cases", "10"]);
+    let few = String::from_utf8(output.stdout).expect("text");
+    assert_eq!(output.status.code(), Some(1));
+    assert!(few.contains("mismatches 0\n"), "{few}");
+    for missing in [
+        "no table was cut with all of its sheets accepted",
+        "no sheet was accepted",
+        "refusal 28 did not occur",
+    ] {
+        assert!(
+            few.contains(&format!("too few cases: {missing}\n")),
+            "{few}"
+        );
+    }
+}
+
+#[test]
+fn without_the_original_it_says_so() {
+    if !oracle::AT_HAND {
+        assert_eq!(
+            told(&["--cases", "10"]),
+            format!("{}\n", oracle::NOT_AT_HAND)
+        );
+    }
+}
+
+#[test]
+fn words_that_it_does_not_know_are_refused() {
+    for words in [
+        &["--cases"][..],
+        &["--cases", "many"],
+        &["--seconds", "-1"],
+        &["1"],
+    ] {
+        let output = run(words);
+        assert_eq!(output.status.code(), Some(2));
+        assert!(output.stdout.is_empty());
+    }
+}
