@@ -1,0 +1,5 @@
+pub mod Numbers
+pub mod Lines
+pub mod Queries
+pub mod Texts
+pub mod Unique

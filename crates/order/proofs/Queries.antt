@@ -1,0 +1,45 @@
+-- What a query is answered, by whether there is a section that answers it.
+use Prim.Native.Nat.{ℕ}
+use mathlib.Core.Bool.{Bool, true, false}
+use mathlib.Core.Path.{_≡_, refl, sym, ap, _∙_}
+use lib.Ieee.{Float, binary64, ofBits, toBits}
+use Rattle.numbers.specs.Words.{nought}
+use Rattle.numbers.proofs.Ways.{never}
+use Rattle.section.specs.declared.section.Section.{Section}
+use Rattle.record.specs.declared.refusal.Refusal.{Refusal}
+use Rattle.curve.specs.Query.{ask, toldNumber}
+use Rattle.curve.specs.declared.query.Covered.{Covered}
+use Rattle.curve.specs.declared.query.Covered.the-variants as covered
+use Rattle.curve.specs.declared.query.Asked.{Asked}
+use Rattle.curve.specs.declared.query.Asked.the-variants as asked
+use Rattle.order.specs.declared.asking.Line.{Line}
+
+abbrev lineFor : Asked → Asked → Line
+lineFor v p = record { refusal = toldNumber v .refusal; value = toBits binary64 (toldNumber v .answer); primitive = toBits binary64 (toldNumber p .answer) }
+
+nought-bits : toBits binary64 nought ≡ 0
+unfolding toBits ofBits
+nought-bits = refl
+
+abbrev isNumber : Asked → Bool
+isNumber (asked.Number v) = true
+isNumber (asked.Refused r) = false
+
+-- refused: zeros, and the primitive is refused alike
+pub none : (f g : Section → Float) (k : Covered) (v : Asked) (r : Refusal) (n : ℕ) → v ≡ ask f k → v ≡ asked.Refused r → n ≡ toldNumber v .refusal →
+    record { refusal = n; value = 0; primitive = 0 } ≡ lineFor (ask f k) (ask g k)
+none f g (covered.Section s) v r n e h m = never (ap isNumber e) (ap isNumber h)
+none f g (covered.Refused q) v r n e h m = rw (m, e, nought-bits)
+
+-- the second is there where the first is
+pub not-second : {A : Type 0} (f g : Section → Float) (k : Covered) (v p : Asked) (a : Float) (r : Refusal) → v ≡ ask f k → p ≡ ask g k → v ≡ asked.Number a → p ≡ asked.Refused r → A
+not-second f g (covered.Section s) v p a r e d h i = never (ap isNumber d) (ap isNumber i)
+not-second f g (covered.Refused q) v p a r e d h i = never (ap isNumber h) (ap isNumber e)
+
+abbrev number : Asked → Float
+number (asked.Number v) = v
+number (asked.Refused r) = nought
+
+pub both : (f g : Section → Float) (k : Covered) (v p : Asked) (a b : Float) (m n : ℕ) → v ≡ ask f k → p ≡ ask g k → v ≡ asked.Number a → p ≡ asked.Number b →
+    m ≡ toBits binary64 a → n ≡ toBits binary64 b → record { refusal = 0; value = m; primitive = n } ≡ lineFor (ask f k) (ask g k)
+both f g k v p a b m n e d h i em en = rw (em, en, sym e ∙ h, sym d ∙ i)

@@ -1,0 +1,79 @@
+-- 01, The order program: the text that answers an order.
+use Prim.Native.Nat.{ℕ, _+_, _-_, _*_, _/_, _%_}
+use mathlib.Core.Bool.{Bool, false, cond}
+use mathlib.Core.List.{List}
+use lib.Dec.{ltb}
+use lib.Ieee.{Float, binary64, toBits}
+use lib.ListN.{length, replicate}
+use Rattle.numbers.specs.Words.{nought}
+use Rattle.record.specs.Refusal.{number}
+use Rattle.numbers.specs.Overlay.{overlay}
+use Rattle.section.specs.Section.{value, primitive}
+use Rattle.table.specs.declared.ends.Seam.the-variants as seam
+use Rattle.curve.specs.Build.{builtOf, tagsLeft, slotsLeft}
+use Rattle.curve.specs.Curve.{withExtrapolation, toldCurve}
+use Rattle.curve.specs.Query.{coveredAt, ask, toldNumber}
+use Rattle.curve.specs.declared.curve.Curve.{Curve}
+use Rattle.curve.specs.declared.curve.Built.{Built}
+use Rattle.curve.specs.declared.curve.Built.the-variants as built
+use Rattle.order.specs.Form.{numberAt, wellFormed, points, queries, hold, allow, method, knots, averages}
+use Rattle.order.specs.Text.{buildByte, queryByte}
+use Rattle.order.specs.declared.asking.Line.{Line}
+use Rattle.order.specs.declared.answer.Told.{Told}
+use Rattle.order.specs.declared.answer.Told.the-variants as told
+
+-- what a query is answered: a refusal's number with zeros, or 0 with the bits of its value and of its primitive
+abbrev pub lineOf : List Float → Curve → List ℕ → List Float → Float → Line
+lineOf x c tags slots q =
+    let v = toldNumber (ask (λ s. value s q) (coveredAt x c tags slots q)) in
+    let p = toldNumber (ask (λ s. primitive s q) (coveredAt x c tags slots q)) in
+    record { refusal = v .refusal; value = toBits binary64 (v .answer); primitive = toBits binary64 (p .answer) }
+
+-- byte i of all lines of queries in a row; the first query stands at place `from` of the order
+abbrev pub lineByte : List ℕ → ℕ → List Float → Curve → List ℕ → List Float → ℕ → ℕ
+lineByte o from x c tags slots i =
+    let l = lineOf x c tags slots (numberAt o (from + 8 * (i / 39))) in
+    queryByte (l .refusal) (l .value) (l .primitive) (i % 39)
+
+-- a curve has a line of its own and one to each query, a refused build only its own
+abbrev pub lengthFor : List ℕ → Built → ℕ
+lengthFor o (built.Curve c) = 10 + 39 * queries o
+lengthFor o (built.Refused r) = 10
+
+abbrev pub byteFor : List ℕ → List Float → List ℕ → List Float → Built → ℕ → ℕ
+byteFor o x tags slots (built.Curve c) i =
+    cond (ltb i 10) (buildByte 0 (c .sections) i) (lineByte o (20 + 16 * points o) x (withExtrapolation c (allow o)) tags slots (i - 10))
+byteFor o x tags slots (built.Refused r) i = buildByte (number r) 0 i
+
+-- the build that an order asks for of a table, into lent buffers, and the text that tells of it
+module _ (o : List ℕ) (x y : List Float) (nodes : List Float) (tags : List ℕ) (slots : List Float) where
+  abbrev pub ordered : Built
+  ordered = builtOf x y (method o) (hold o) seam.Absent nodes tags slots
+
+  abbrev pub orderedByte : ℕ → ℕ
+  orderedByte =
+      byteFor o x (tagsLeft x y (method o) (hold o) seam.Absent nodes tags slots) (slotsLeft x y (method o) (hold o) seam.Absent nodes tags slots) ordered
+
+-- an order's text; one that is not well formed gets refusal 17
+module _ (o : List ℕ) where
+  abbrev pub nodes₀ : List Float
+  nodes₀ = replicate 200 nought
+
+  abbrev pub tags₀ : List ℕ
+  tags₀ = replicate 200 0
+
+  abbrev pub slots₀ : List Float
+  slots₀ = replicate 4800 nought
+
+  abbrev pub textLength : ℕ
+  textLength = cond (wellFormed o) (lengthFor o (ordered o (knots o) (averages o) nodes₀ tags₀ slots₀)) 10
+
+  abbrev pub textAt : ℕ → ℕ
+  textAt = cond (wellFormed o) (orderedByte o (knots o) (averages o) nodes₀ tags₀ slots₀) (buildByte 17 0)
+
+  -- a buffer of fewer bytes than the longest text has is refused, and not written to
+  abbrev pub toldOf : ℕ → Told
+  toldOf room = cond (ltb room 2506) told.TooShort (told.Text textLength)
+
+  abbrev pub outLeft : List ℕ → List ℕ
+  outLeft out = cond (ltb (length out) 2506) out (overlay 0 textLength textAt out)
