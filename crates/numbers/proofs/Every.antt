@@ -16,7 +16,7 @@ pub and-split : (a b : Bool) → a && b ≡ true → (a ≡ true) × (b ≡ true
 and-split true b h = (refl, h)
 and-split false b h = (h, never h refl)
 
-and-right-false : (a : Bool) → a && false ≡ false
+pub and-right-false : (a : Bool) → a && false ≡ false
 and-right-false true = refl
 and-right-false false = refl
 
@@ -31,6 +31,11 @@ all-none f = refl
 pub all-more : (n : ℕ) (f : ℕ → Bool) → allBelow n f ≡ true → f n ≡ true → allBelow (n + 1) f ≡ true
 unfolding allBelow
 all-more n f h e = rw (add-one n, e, h)
+
+-- what a loop keeps that goes on to the end: t is the test at the next place, s what was found before it
+pub all-next : (n : ℕ) (f : ℕ → Bool) {t s b : Bool} → t ≡ f n → s ≡ allBelow n f → b ≡ t && s → b ≡ allBelow (n + 1) f
+unfolding allBelow
+all-next n f p q e = rw (add-one n, ← p, ← q) e
 
 pub all-every : (n : ℕ) (f : ℕ → Bool) → ((k : ℕ) → k < n → f k ≡ true) → allBelow n f ≡ true
 unfolding allBelow

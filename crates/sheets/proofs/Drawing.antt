@@ -13,7 +13,7 @@ use lib.ListN.{length, getD}
 use Rattle.numbers.specs.Every.{allBelow}
 use Rattle.numbers.specs.Overlay.{overlay}
 use Rattle.numbers.specs.Words.{nought}
-use Rattle.numbers.proofs.Every.{all-at, and-split}
+use Rattle.numbers.proofs.Every.{all-at, and-split, and-right-false}
 use Rattle.numbers.proofs.Overlay.{overlay-none, overlay-same, length-overlay}
 use Rattle.numbers.proofs.Ways.{lt-or-le, never}
 use Rattle.record.specs.Refusal.{first}
@@ -136,10 +136,6 @@ next-start cuts j =
     let e : j + 1 ≡ 0 → ⊥ = λ z. omega arith in
     let s : j + 1 - 1 ≡ j = omega arith in
     rw (ne-eqb (j + 1) 0 e, s)
-
-and-right-false : (a : Bool) → a && false ≡ false
-and-right-false true = refl
-and-right-false false = refl
 
 -- a cut that is not above the one before, one that is not inside, and one that fits
 module _ (cuts : List ℕ) (n j before cut : ℕ) where

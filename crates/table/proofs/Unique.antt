@@ -4,12 +4,9 @@ use contract.Lifetimes
 use borrow.Fn.World
 use borrow.Fn.Kinds as K
 use denote.Triple.Clauses
-use Rattle.table.proofs.check.all_finite
-use Rattle.table.proofs.check.all_finite.Kinds as all-finite-kinds
-use Rattle.table.proofs.check.all_finite.Reads as all-finite-reads
-use Rattle.table.proofs.check.rising
-use Rattle.table.proofs.check.rising.Kinds as rising-kinds
-use Rattle.table.proofs.check.rising.Reads as rising-reads
+use Rattle.table.proofs.check.knots_of
+use Rattle.table.proofs.check.knots_of.Kinds as knots-of-kinds
+use Rattle.table.proofs.check.knots_of.Reads as knots-of-reads
 use Rattle.table.proofs.check.table_verdict
 use Rattle.table.proofs.check.table_verdict.Kinds as table-verdict-kinds
 use Rattle.table.proofs.check.table_verdict.Reads as table-verdict-reads
@@ -26,13 +23,9 @@ use Rattle.table.proofs.method.ConvexMonotone.defaults
 use Rattle.table.proofs.method.ConvexMonotone.defaults.Kinds as defaults-kinds
 use Rattle.table.proofs.method.ConvexMonotone.defaults.Reads as defaults-reads
 
-pub all-finite-unique : (κs : Lifetimes.Lfts 1) (a : World.ArgsD all_finite.signature κs) (r₁ r₂ : World.ResD all_finite.signature κs)
-    (s t : Clauses.AtExit (K.endedOf 1 all-finite-kinds.ps all-finite-kinds.r) κs) → all-finite-reads.Post κs a r₁ s → all-finite-reads.Post κs a r₂ t → r₁ ≡ r₂
-all-finite-unique κs a r₁ r₂ s t p q = p ∙ sym q
-
-pub rising-unique : (κs : Lifetimes.Lfts 1) (a : World.ArgsD rising.signature κs) (r₁ r₂ : World.ResD rising.signature κs)
-    (s t : Clauses.AtExit (K.endedOf 1 rising-kinds.ps rising-kinds.r) κs) → rising-reads.Post κs a r₁ s → rising-reads.Post κs a r₂ t → r₁ ≡ r₂
-rising-unique κs a r₁ r₂ s t p q = p ∙ sym q
+pub knots-of-unique : (κs : Lifetimes.Lfts 1) (a : World.ArgsD knots_of.signature κs) (r₁ r₂ : World.ResD knots_of.signature κs)
+    (s t : Clauses.AtExit (K.endedOf 1 knots-of-kinds.ps knots-of-kinds.r) κs) → knots-of-reads.Post κs a r₁ s → knots-of-reads.Post κs a r₂ t → r₁ ≡ r₂
+knots-of-unique κs a r₁ r₂ s t p q = p ∙ sym q
 
 pub table-verdict-unique : (κs : Lifetimes.Lfts 2) (a : World.ArgsD table_verdict.signature κs) (r₁ r₂ : World.ResD table_verdict.signature κs)
     (s t : Clauses.AtExit (K.endedOf 2 table-verdict-kinds.ps table-verdict-kinds.r) κs) → table-verdict-reads.Post κs a r₁ s → table-verdict-reads.Post κs a r₂ t → r₁ ≡ r₂

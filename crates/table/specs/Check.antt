@@ -1,6 +1,6 @@
 -- 01, Refusal numbers: what is asked of a table
 use Prim.Native.Nat.{ℕ, _+_, _-_, _*_}
-use mathlib.Core.Bool.{Bool, false, not, _&&_, _||_}
+use mathlib.Core.Bool.{Bool, true, false, cond, not, _&&_, _||_}
 use mathlib.Core.List.{List, [], _∷_}
 use lib.Dec.{eqb, ltb, leb}
 use lib.Ieee.{Float, lt, le}
@@ -10,6 +10,7 @@ use Rattle.numbers.specs.Words.{nought, one, finite}
 use Rattle.record.specs.Refusal.{Test, _⇒_}
 use Rattle.record.specs.Slots.{slotCount}
 use Rattle.record.specs.declared.refusal.Refusal.the-variants.{LengthsDiffer, MonotonicityOutside, QuadraticityOutside, TooFewPoints, KnotNotFinite, AverageNotFinite, KnotsNotRising, SeamTooLong, TooManyPoints, BufferTooShort}
+use Rattle.table.specs.declared.check.Knots.{Knots}
 use Rattle.table.specs.declared.method.ConvexMonotone.{ConvexMonotone}
 use Rattle.table.specs.declared.ends.Seam.{Seam}
 use Rattle.table.specs.declared.ends.Seam.the-variants as seam
@@ -23,6 +24,13 @@ allFinite xs = allBelow (length xs) (λ i. finite (at xs i))
 unfoldable pub rising : List Float → Bool
 unfolding allBelow
 rising xs = allBelow (length xs - 1) (λ i. lt (at xs i) (at xs (i + 1)))
+
+abbrev pub knotsOf : List Float → Knots
+knotsOf xs = record { finite = allFinite xs; rising = rising xs }
+
+-- the first and the last, if there are any
+abbrev pub endsFinite : List Float → Bool
+endsFinite xs = cond (eqb (length xs) 0) true (finite (at xs 0) && finite (at xs (length xs - 1)))
 
 -- in [0, 1]; a NaN is not, and -0.0 is
 abbrev pub inUnit : Float → Bool

@@ -10,33 +10,70 @@ ghost use mathlib.Core.List.{[], _∷_};
 ghost use Prim.Native.Nat.{_≤_};
 ghost use lib.ListN.{length};
 ghost use Rattle.record.specs.Refusal.{first};
-ghost use Rattle.table.specs.Check.{allFinite, rising, inUnit, seamTooLong, noRoom, tableTests, seamTest, roomTests};
+ghost use Rattle.table.specs.Check.{allFinite, rising, endsFinite, knotsOf, inUnit, seamTooLong, noRoom, tableTests, seamTest, roomTests};
 
-pub fn all_finite(xs: &[f64]) -> bool
+// No test in these loops leaves early: a table that is refused is rare, and a loop that always runs to its end goes several numbers at a time.
+fn all_finite(xs: &[f64]) -> bool
     ensures { λ r. ⌜ r ≡ allFinite (now (xs .entry)) ⌝ }
 {
+    let mut all = true;
     for i in 0..xs.len() {
-        if !numbers::is_finite(xs[i]) {
-            return false;
-        }
+        let finite = numbers::is_finite(xs[i]);
+        all = finite && all;
     }
-    true
+    all
 }
 
 // Whether each knot lies above the one before.
-pub fn rising(xs: &[f64]) -> bool
+fn rising(xs: &[f64]) -> bool
     ensures { λ r. ⌜ r ≡ rising (now (xs .entry)) ⌝ }
 {
     if xs.len() < 2 {
         return true;
     }
     let steps = xs.len() - 1;
+    let mut all = true;
     for i in 0..steps {
-        if !(xs[i] < xs[i + 1]) {
-            return false;
+        let above = xs[i] < xs[i + 1];
+        all = above && all;
+    }
+    all
+}
+
+fn ends_finite(xs: &[f64]) -> bool
+    ensures { λ r. ⌜ r ≡ endsFinite (now (xs .entry)) ⌝ }
+{
+    if xs.len() == 0 {
+        return true;
+    }
+    let last = xs.len() - 1;
+    numbers::is_finite(xs[0]) && numbers::is_finite(xs[last])
+}
+
+// What is asked of knots.
+pub struct Knots {
+    pub finite: bool,
+    pub rising: bool,
+}
+
+// Each knot is read once where all is well: knots that rise from a finite first one to a finite last one are all finite.
+pub fn knots_of(xs: &[f64]) -> Knots
+    ensures { λ r. ⌜ r ≡ knotsOf (now (xs .entry)) ⌝ }
+{
+    let rises = rising(xs);
+    if rises {
+        if ends_finite(xs) {
+            return Knots {
+                finite: true,
+                rising: true,
+            };
         }
     }
-    true
+    let finite = all_finite(xs);
+    Knots {
+        finite,
+        rising: rises,
+    }
 }
 
 fn in_unit(x: f64) -> bool
@@ -61,13 +98,14 @@ pub fn table_verdict(xs: &[f64], ys: &[f64], method: ConvexMonotone) -> Verdict
     if xs.len() < 2 {
         return Verdict::Refused(Refusal::TooFewPoints);
     }
-    if !all_finite(xs) {
+    let knots = knots_of(xs);
+    if !knots.finite {
         return Verdict::Refused(Refusal::KnotNotFinite);
     }
     if !all_finite(ys) {
         return Verdict::Refused(Refusal::AverageNotFinite);
     }
-    if !rising(xs) {
+    if !knots.rising {
         return Verdict::Refused(Refusal::KnotsNotRising);
     }
     Verdict::Accepted
