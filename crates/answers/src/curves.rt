@@ -5,9 +5,9 @@ use crate::kept::Outcome;
 use crate::kept::TAGS;
 use crate::records;
 use curve::curve::Curve;
-use curve::query::Asked;
 use lines::points;
 use lines::words::MOST;
+use query::single::Asked;
 use record::slots::SLOTS;
 
 // A line `b REFUSAL SECTIONS`: whether the build or growth went as it tells.
@@ -107,14 +107,14 @@ fn same(asked: Asked, refusal: u64, number: u64) -> bool {
 fn both(xs: &[f64], made: Curve, tags: &[u16], slots: &[f64], words: &[u64; MOST]) -> bool {
     let q = numbers::of_bits(words[1]);
     if !same(
-        curve::query::value(xs, made, tags, slots, q),
+        query::single::value(xs, made, tags, slots, q),
         words[2],
         words[3],
     ) {
         return false;
     }
     same(
-        curve::query::primitive(xs, made, tags, slots, q),
+        query::single::primitive(xs, made, tags, slots, q),
         words[2],
         words[4],
     )

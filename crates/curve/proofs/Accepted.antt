@@ -6,7 +6,8 @@ use mathlib.Core.Path.{_≡_, sym, ap, _∙_}
 use lib.Dec.{ltb, eqb}
 use lib.Ieee.{Float}
 use lib.ListN.{length}
-use Rattle.record.specs.Refusal.{first}
+use Rattle.numbers.specs.Words.{nought}
+use Rattle.record.specs.Refusal.{first, number}
 use Rattle.record.specs.declared.refusal.Refusal.{Refusal}
 use Rattle.record.specs.declared.refusal.Verdict.{Verdict}
 use Rattle.record.specs.declared.refusal.Verdict.the-variants as verdict
@@ -18,6 +19,8 @@ use Rattle.shape.specs.Making.{sizeTests}
 use Rattle.shape.proofs.Sizes as sizes
 use Rattle.shape.proofs.Sizes.{Fits, only-room}
 use Rattle.curve.specs.Build.{seamedTests, buildTests, answer}
+use Rattle.curve.specs.Curve.{toldCurve}
+use Rattle.curve.specs.declared.curve.Curve.{Curve}
 use Rattle.curve.specs.declared.curve.Built.{Built}
 use Rattle.curve.specs.declared.curve.Built.the-variants as built
 
@@ -42,3 +45,11 @@ refused v r b e = rw e
 
 pub made : (v : Verdict) (b c : Built) → v ≡ verdict.Accepted → b ≡ c → b ≡ answer v c
 made v b c e f = rw e f
+
+-- an answer in numbers
+pub told-curve : (b : Built) (c : Curve) → b ≡ built.Curve c → record { refusal = 0; sections = c .sections; tail = c .tail } ≡ toldCurve b
+told-curve b c e = rw e
+
+pub told-no-curve : (b : Built) (r : Refusal) (n : ℕ) → b ≡ built.Refused r → n ≡ number r →
+    record { refusal = n; sections = 0; tail = record { value = nought; total = nought; from = nought } } ≡ toldCurve b
+told-no-curve b r n e f = rw (e, f)

@@ -23,18 +23,6 @@ use Rattle.curve.proofs.growth.grow.Reads as grow-reads
 use Rattle.curve.proofs.curve.Built.told as told-curve
 use Rattle.curve.proofs.curve.Built.told.Kinds as told-curve-kinds
 use Rattle.curve.proofs.curve.Built.told.Reads as told-curve-reads
-use Rattle.curve.proofs.query.Asked.told as told-number
-use Rattle.curve.proofs.query.Asked.told.Kinds as told-number-kinds
-use Rattle.curve.proofs.query.Asked.told.Reads as told-number-reads
-use Rattle.curve.proofs.query.value
-use Rattle.curve.proofs.query.value.Kinds as value-kinds
-use Rattle.curve.proofs.query.value.Reads as value-reads
-use Rattle.curve.proofs.query.primitive
-use Rattle.curve.proofs.query.primitive.Kinds as primitive-kinds
-use Rattle.curve.proofs.query.primitive.Reads as primitive-reads
-use Rattle.curve.proofs.query.derivative
-use Rattle.curve.proofs.query.derivative.Kinds as derivative-kinds
-use Rattle.curve.proofs.query.derivative.Reads as derivative-reads
 
 pub build-verdict-unique : (κs : Lifetimes.Lfts 2) (a : World.ArgsD build_verdict.signature κs) (r₁ r₂ : World.ResD build_verdict.signature κs)
     (s t : Clauses.AtExit (K.endedOf 2 build-verdict-kinds.ps build-verdict-kinds.r) κs) → build-verdict-reads.Post κs a r₁ s → build-verdict-reads.Post κs a r₂ t → r₁ ≡ r₂
@@ -58,22 +46,6 @@ pub grow-unique : (κs : Lifetimes.Lfts 7) (a : World.ArgsD grow.signature κs) 
     (r₁ ≡ r₂) × (now (s .1 .1 .1 .1 .1 .1 .1 .1 .0) ≡ now (t .1 .1 .1 .1 .1 .1 .1 .1 .0)) × (now (s .1 .1 .1 .1 .1 .1 .1 .1 .1 .0) ≡ now (t .1 .1 .1 .1 .1 .1 .1 .1 .1 .0)) × (now (s .1 .1 .1 .1 .1 .1 .1 .1 .1 .1 .0) ≡ now (t .1 .1 .1 .1 .1 .1 .1 .1 .1 .1 .0))
 grow-unique κs a r₁ r₂ s t p q = (p .0 ∙ sym (q .0), p .1 .0 ∙ sym (q .1 .0), p .1 .1 .0 ∙ sym (q .1 .1 .0), p .1 .1 .1 ∙ sym (q .1 .1 .1))
 
-pub value-unique : (κs : Lifetimes.Lfts 3) (a : World.ArgsD value.signature κs) (r₁ r₂ : World.ResD value.signature κs)
-    (s t : Clauses.AtExit (K.endedOf 3 value-kinds.ps value-kinds.r) κs) → value-reads.Post κs a r₁ s → value-reads.Post κs a r₂ t → r₁ ≡ r₂
-value-unique κs a r₁ r₂ s t p q = p ∙ sym q
-
-pub primitive-unique : (κs : Lifetimes.Lfts 3) (a : World.ArgsD primitive.signature κs) (r₁ r₂ : World.ResD primitive.signature κs)
-    (s t : Clauses.AtExit (K.endedOf 3 primitive-kinds.ps primitive-kinds.r) κs) → primitive-reads.Post κs a r₁ s → primitive-reads.Post κs a r₂ t → r₁ ≡ r₂
-primitive-unique κs a r₁ r₂ s t p q = p ∙ sym q
-
-pub derivative-unique : (κs : Lifetimes.Lfts 0) (a : World.ArgsD derivative.signature κs) (r₁ r₂ : World.ResD derivative.signature κs)
-    (s t : Clauses.AtExit (K.endedOf 0 derivative-kinds.ps derivative-kinds.r) κs) → derivative-reads.Post κs a r₁ s → derivative-reads.Post κs a r₂ t → r₁ ≡ r₂
-derivative-unique κs a r₁ r₂ s t p q = p ∙ sym q
-
 pub told-curve-unique : (κs : Lifetimes.Lfts 0) (a : World.ArgsD told-curve.signature κs) (r₁ r₂ : World.ResD told-curve.signature κs)
     (s t : Clauses.AtExit (K.endedOf 0 told-curve-kinds.ps told-curve-kinds.r) κs) → told-curve-reads.Post κs a r₁ s → told-curve-reads.Post κs a r₂ t → r₁ ≡ r₂
 told-curve-unique κs a r₁ r₂ s t p q = p ∙ sym q
-
-pub told-number-unique : (κs : Lifetimes.Lfts 0) (a : World.ArgsD told-number.signature κs) (r₁ r₂ : World.ResD told-number.signature κs)
-    (s t : Clauses.AtExit (K.endedOf 0 told-number-kinds.ps told-number-kinds.r) κs) → told-number-reads.Post κs a r₁ s → told-number-reads.Post κs a r₂ t → r₁ ≡ r₂
-told-number-unique κs a r₁ r₂ s t p q = p ∙ sym q

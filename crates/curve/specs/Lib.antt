@@ -1,4 +1,3 @@
 pub mod Curve
 pub mod Build
-pub mod Query
 pub mod Growth

@@ -1,5 +1,4 @@
-// Curves: a table goes in, and a curve or a refusal comes out; a query of it gets its price.
+// Curves: a table goes in, and a curve or a refusal comes out.
 pub mod build;
 pub mod curve;
 pub mod growth;
-pub mod query;

@@ -4,7 +4,7 @@ use mathlib.Core.Bool.{true}
 use mathlib.Core.List.{List}
 use mathlib.Core.Path.{_≡_, refl}
 use lib.Ieee.{Float}
-use Rattle.curve.specs.Query.{coveredAt, covering}
+use Rattle.query.specs.Query.{coveredAt, covering}
 use Rattle.curve.specs.Growth.{carriedAt, seamOf}
 use Rattle.curve.specs.declared.curve.Curve.{Curve}
 use Rattle.curve.specs.declared.growth.Previous.the-variants as previous

@@ -12,12 +12,12 @@ use Rattle.record.specs.declared.refusal.Verdict.{Verdict}
 use Rattle.record.specs.declared.refusal.Verdict.the-variants as verdict
 use Rattle.curve.specs.Build.{answer}
 use Rattle.curve.specs.Curve.{toldCurve}
-use Rattle.curve.specs.Query.{toldNumber}
+use Rattle.query.specs.Query.{toldNumber}
 use Rattle.curve.specs.declared.curve.Curve.{Curve}
 use Rattle.curve.specs.declared.curve.Built.{Built}
 use Rattle.curve.specs.declared.curve.Built.the-variants as built
-use Rattle.curve.specs.declared.query.Asked.{Asked}
-use Rattle.curve.specs.declared.query.Asked.the-variants as asked
+use Rattle.query.specs.declared.single.Asked.{Asked}
+use Rattle.query.specs.declared.single.Asked.the-variants as asked
 use Rattle.export.specs.Asking as asking
 use Rattle.export.specs.Building as building
 

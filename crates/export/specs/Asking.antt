@@ -5,8 +5,8 @@ use lib.Ieee.{Float}
 use lib.ListN.{set}
 use Rattle.record.specs.declared.refusal.Refusal.the-variants.{BufferTooShort}
 use Rattle.curve.specs.declared.curve.Curve.{Curve}
-use Rattle.curve.specs.declared.query.Asked.{Asked}
-use Rattle.curve.specs.declared.query.Asked.the-variants as asked
+use Rattle.query.specs.declared.single.Asked.{Asked}
+use Rattle.query.specs.declared.single.Asked.the-variants as asked
 
 -- a query reads the record and whether it may leave the knots, and no more
 abbrev pub curveWith : Float → Float → Float → Bool → Curve

@@ -1,6 +1,6 @@
 // Prices and running totals of a curve that was built.
 use curve::curve::Curve;
-use curve::query::Asked;
+use query::single::Asked;
 use record::refusal::Refusal;
 use shape::sections::Tail;
 ghost use mathlib.Core.Path.{_≡_};
@@ -8,7 +8,7 @@ ghost use lib.Dec.{ltb};
 ghost use lib.ListN.{length};
 ghost use Rattle.section.specs.Section.{value, primitive};
 ghost use Rattle.record.specs.Refusal.{number};
-ghost use Rattle.curve.specs.Query.{ask, coveredAt, toldNumber};
+ghost use Rattle.query.specs.Query.{ask, coveredAt, toldNumber};
 ghost use Rattle.export.specs.Asking.{curveWith, roomed, numberLeft};
 
 // What a query reads of a curve beside its knots and records. It asks neither how many sections there are nor whether the last is held.
@@ -58,7 +58,7 @@ pub extern "C" fn havgrunel_value(
     ensures answer { λ _. ⌜ now (answer .exit) ≡ numberLeft (roomed (ltb (length (now (answer .entry))) 1) (ask (λ s. value s x) (coveredAt (now (knots .entry)) (curveWith «tail_value» «tail_total» «tail_from» extrapolate) (now (tags .entry)) (now (slots .entry)) x))) (now (answer .entry)) ⌝ }
 {
     let curve = curve_with(tail_value, tail_total, tail_from, extrapolate);
-    tell(curve::query::value(knots, curve, tags, slots, x), answer)
+    tell(query::single::value(knots, curve, tags, slots, x), answer)
 }
 
 // The total of all prices up to x, into the first entry of `answer`.
@@ -79,7 +79,7 @@ pub extern "C" fn havgrunel_primitive(
 {
     let curve = curve_with(tail_value, tail_total, tail_from, extrapolate);
     tell(
-        curve::query::primitive(knots, curve, tags, slots, x),
+        query::single::primitive(knots, curve, tags, slots, x),
         answer,
     )
 }
@@ -89,5 +89,5 @@ pub extern "C" fn havgrunel_primitive(
 pub extern "C" fn havgrunel_derivative(x: f64) -> u8
     ensures { λ r. ⌜ r ≡ number Refusal.DerivativeAsked ⌝ }
 {
-    curve::query::derivative(x).told().refusal
+    query::single::derivative(x).told().refusal
 }

@@ -23,7 +23,7 @@ use Rattle.choice.specs.QuadraticPart.{made, minKind}
 use Rattle.choice.specs.Regions.{flat, minFits, inFirst, inSecond, inThird}
 use Rattle.shape.specs.Sections.{sectionAt, tailOf}
 use Rattle.curve.specs.Build.{curveOf}
-use Rattle.curve.specs.Query.{walk, covering}
+use Rattle.query.specs.Query.{walk, covering}
 use Rattle.figures.specs.Figures.{same, table, agree}
 
 pub figures : agree table ≡ true

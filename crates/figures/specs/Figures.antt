@@ -27,10 +27,10 @@ use Rattle.choice.specs.Choice.{sectionOf}
 use Rattle.curve.specs.Build as build
 use Rattle.curve.specs.Build.{buildVerdict, builtOf}
 use Rattle.curve.specs.Curve.{toldCurve, withExtrapolation}
-use Rattle.curve.specs.Query.{placeOf, coveredAt, ask, toldNumber}
+use Rattle.query.specs.Query.{placeOf, coveredAt, ask, toldNumber}
 use Rattle.curve.specs.declared.curve.Curve.{Curve}
 use Rattle.curve.specs.declared.curve.ToldCurve.{ToldCurve}
-use Rattle.curve.specs.declared.query.ToldNumber.{ToldNumber}
+use Rattle.query.specs.declared.single.ToldNumber.{ToldNumber}
 use Rattle.sheets.specs.Sheet as sheet
 
 pub record Row : Type 0 where

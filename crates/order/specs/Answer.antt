@@ -12,7 +12,7 @@ use Rattle.section.specs.Section.{value, primitive}
 use Rattle.table.specs.declared.ends.Seam.the-variants as seam
 use Rattle.curve.specs.Build.{builtOf, tagsLeft, slotsLeft}
 use Rattle.curve.specs.Curve.{withExtrapolation, toldCurve}
-use Rattle.curve.specs.Query.{coveredAt, ask, toldNumber}
+use Rattle.query.specs.Query.{coveredAt, ask, toldNumber}
 use Rattle.curve.specs.declared.curve.Curve.{Curve}
 use Rattle.curve.specs.declared.curve.Built.{Built}
 use Rattle.curve.specs.declared.curve.Built.the-variants as built

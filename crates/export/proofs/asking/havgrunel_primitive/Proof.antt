@@ -3,7 +3,7 @@ use mathlib.Core.Path.{_∙_, ap}
 use borrow.Author.Needs.{needs}
 use Rattle.section.specs.Section.{primitive}
 use Rattle.section.specs.declared.section.Section.{Section}
-use Rattle.curve.specs.Query.{ask, coveredAt}
+use Rattle.query.specs.Query.{ask, coveredAt}
 use Rattle.curve.specs.declared.curve.Curve.{Curve}
 use Rattle.export.proofs.Told.{query-told}
 use Rattle.export.proofs.asking.havgrunel_primitive.Statement.{statement}

@@ -1,6 +1,6 @@
 -- `Built::told` meets its contract.
 use borrow.Author.Needs.{needs}
-use Rattle.curve.proofs.Answers.{told-curve, told-no-curve}
+use Rattle.curve.proofs.Accepted.{told-curve, told-no-curve}
 use Rattle.curve.proofs.curve.Built.told.Statement.{statement}
 use Rattle.curve.proofs.curve.Built.told.Tie as tie
 

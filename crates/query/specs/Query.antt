@@ -1,0 +1,87 @@
+-- 01, Queries, settings and growth
+use Prim.Native.Nat.{ℕ, zero, suc, _+_, _-_, _*_}
+use mathlib.Core.Bool.{Bool, true, false, cond, not, _&&_, _||_}
+use mathlib.Core.List.{List, [], _∷_, _++_}
+use lib.Dec.{eqb, ltb, leb}
+use lib.Ieee.{Float, lt, le, ne}
+use lib.ListN.{length, take, drop, getD}
+use Rattle.numbers.specs.Words.{nought}
+use Rattle.section.specs.EverywhereConstant as constant
+use Rattle.section.specs.Section as section
+use Rattle.section.specs.declared.section.Section.{Section}
+use Rattle.section.specs.declared.section.Section.the-variants as kind
+use Rattle.record.specs.Reading.{readSection}
+use Rattle.record.specs.Refusal.{Test, _⇒_, first, number}
+use Rattle.record.specs.Slots.{slotCount}
+use Rattle.record.specs.declared.reading.Found.{Found}
+use Rattle.record.specs.declared.reading.Found.the-variants as found
+use Rattle.record.specs.declared.refusal.Refusal.{Refusal}
+use Rattle.record.specs.declared.refusal.Refusal.the-variants.{TooFewPoints, KnotNotFinite, KnotsNotRising, TooManyPoints, BufferTooShort, QueryNotANumber, QueryOutside, RecordNotLegal}
+use Rattle.record.specs.declared.refusal.Verdict.{Verdict}
+use Rattle.record.specs.declared.refusal.Verdict.the-variants as verdict
+use Rattle.table.specs.Check.{allFinite, rising}
+use Rattle.table.specs.Table.{at}
+use Rattle.curve.specs.declared.curve.Curve.{Curve}
+use Rattle.query.specs.declared.single.Covered.{Covered}
+use Rattle.query.specs.declared.single.Covered.the-variants as covered
+use Rattle.query.specs.declared.single.Asked.{Asked}
+use Rattle.query.specs.declared.single.Asked.the-variants as asked
+use Rattle.query.specs.declared.single.ToldNumber.{ToldNumber}
+
+-- inside the knots, or allowed outside them
+abbrev pub outside : List Float → Curve → Float → Bool
+outside x curve q = not (curve .extrapolates) && not (le (at x 0) q && le q (at x (length x - 1)))
+
+-- of the curve, 4, 5, 7, 10, 11
+abbrev pub curveTests : List Float → ℕ → ℕ → List Test
+curveTests x tags slots =
+    (ltb (length x) 2 ⇒ TooFewPoints)
+    ∷ (not (allFinite x) ⇒ KnotNotFinite)
+    ∷ (not (rising x) ⇒ KnotsNotRising)
+    ∷ (ltb 4096 (length x) ⇒ TooManyPoints)
+    ∷ (ltb tags (length x - 1) || ltb slots (slotCount * (length x - 1)) ⇒ BufferTooShort)
+    ∷ []
+
+-- then of the query, 12, 13
+abbrev pub pointTests : List Float → Curve → Float → List Test
+pointTests x curve q = (ne q q ⇒ QueryNotANumber) ∷ (outside x curve q ⇒ QueryOutside) ∷ []
+
+abbrev pub queryTests : List Float → Curve → ℕ → ℕ → Float → List Test
+queryTests x curve tags slots q = curveTests x tags slots ++ pointTests x curve q
+
+-- the number of inner knots at or below the query, walked from the first: the section that covers it
+unfoldable pub walk : List Float → Float → ℕ → ℕ → ℕ
+walk x q i zero = i
+walk x q i (suc left) = cond (lt q (at x (i + 1))) i (walk x q (i + 1) left)
+
+abbrev pub placeOf : List Float → Float → ℕ
+placeOf x q = walk x q 0 (length x - 2)
+
+-- the record's own constant section, from the last knot on; else the section read at its place
+abbrev pub tailSection : Curve → Section
+tailSection curve = kind.EverywhereConstant (constant.new (curve .tail .value) (curve .tail .total) (curve .tail .from))
+
+unfoldable pub covering : List Float → Curve → List ℕ → List Float → Float → Found
+unfolding walk
+covering x curve tags slots q =
+    cond (le (at x (length x - 1)) q) (found.Section (tailSection curve))
+    (let i = placeOf x q in readSection (getD tags i 0) (take slotCount (drop (slotCount * i) slots)))
+
+-- 15 comes last
+abbrev pub coveredOf : Verdict → Found → Covered
+coveredOf verdict.Accepted (found.Section s) = covered.Section s
+coveredOf verdict.Accepted found.Illegal = covered.Refused RecordNotLegal
+coveredOf (verdict.Refused r) f = covered.Refused r
+
+abbrev pub coveredAt : List Float → Curve → List ℕ → List Float → Float → Covered
+coveredAt x curve tags slots q = coveredOf (first (queryTests x curve (length tags) (length slots) q)) (covering x curve tags slots q)
+
+-- what the section that answers gives, or the refusal
+abbrev pub ask : (Section → Float) → Covered → Asked
+ask f (covered.Section s) = asked.Number (f s)
+ask f (covered.Refused r) = asked.Refused r
+
+-- a refusal's number, or 0, with the answer
+abbrev pub toldNumber : Asked → ToldNumber
+toldNumber (asked.Number v) = record { refusal = 0; answer = v }
+toldNumber (asked.Refused r) = record { refusal = number r; answer = nought }
