@@ -7,11 +7,11 @@ use lib.Dec.{ltb, eqb}
 use lib.Ieee.{Float}
 use lib.ListN.{length}
 use Rattle.numbers.specs.Words.{nought}
-use Rattle.record.specs.Refusal.{first, number}
+use Rattle.record.specs.Refusal.{first, number, andThen}
 use Rattle.record.specs.declared.refusal.Refusal.{Refusal}
 use Rattle.record.specs.declared.refusal.Verdict.{Verdict}
 use Rattle.record.specs.declared.refusal.Verdict.the-variants as verdict
-use Rattle.record.proofs.First.{Passed, passed, andThen, first-append}
+use Rattle.record.proofs.First.{Passed, passed, first-append}
 use Rattle.table.specs.Check.{roomTests}
 use Rattle.table.specs.declared.method.ConvexMonotone.{ConvexMonotone}
 use Rattle.table.specs.declared.ends.Seam.{Seam}

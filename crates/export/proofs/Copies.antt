@@ -10,14 +10,14 @@ use lib.ListN.{length, set, take, drop, length-take, length-drop}
 use Rattle.section.specs.Section as section
 use Rattle.section.specs.declared.section.Section.{Section}
 use Rattle.record.specs.Reader.{recordTests, recordVerdict, recordPart}
-use Rattle.record.specs.Refusal.{first, number}
+use Rattle.record.specs.Refusal.{first, number, andThen}
 use Rattle.record.specs.declared.reading.Found.{Found}
 use Rattle.record.specs.declared.reading.Found.the-variants as found
 use Rattle.record.specs.declared.refusal.Refusal.{Refusal}
 use Rattle.record.specs.declared.refusal.Refusal.the-variants.{BufferTooShort, RecordNotLegal}
 use Rattle.record.specs.declared.refusal.Verdict.{Verdict}
 use Rattle.record.specs.declared.refusal.Verdict.the-variants as verdict
-use Rattle.record.proofs.First.{andThen, first-append}
+use Rattle.record.proofs.First.{first-append}
 use Rattle.record.proofs.InRange.{in-range}
 use Rattle.export.specs.Records.{toldVerdict, copied, roomTest, copyVerdict, copyLeft, sectionRefusal, sectionLeft}
 

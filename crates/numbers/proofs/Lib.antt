@@ -1,5 +1,6 @@
 pub mod Ways
 pub mod Decimals
+pub mod Order
 pub mod Overlay
 pub mod Finite
 pub mod Signs

@@ -3,7 +3,7 @@ use mathlib.Core.Bool.{Bool, true, false, cond}
 use mathlib.Core.List.{List, [], _∷_, _++_}
 use mathlib.Core.Path.{_≡_, refl, sym, ap, _∙_}
 use Rattle.numbers.proofs.Ways.{never}
-use Rattle.record.specs.Refusal.{Test, _⇒_, first}
+use Rattle.record.specs.Refusal.{Test, _⇒_, first, andThen}
 use Rattle.record.specs.declared.refusal.Refusal.{Refusal}
 use Rattle.record.specs.declared.refusal.Verdict.{Verdict}
 use Rattle.record.specs.declared.refusal.Verdict.the-variants.{Accepted, Refused}
@@ -29,11 +29,6 @@ passed (t ∷ ts) h = let p = head (t .holds) (t .refusal) (first ts) h in (p .0
 pub accepted : (ts : List Test) → Passed ts → first ts ≡ Accepted
 accepted [] h = refl
 accepted (t ∷ ts) h = rw (h .0) (accepted ts (h .1))
-
--- one check after another
-abbrev pub andThen : Verdict → Verdict → Verdict
-andThen Accepted v = v
-andThen (Refused r) v = Refused r
 
 cond-then : (b : Bool) (r : Refusal) (v w : Verdict) → cond b (Refused r) (andThen v w) ≡ andThen (cond b (Refused r) v) w
 cond-then true r v w = refl

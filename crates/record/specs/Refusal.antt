@@ -39,3 +39,8 @@ infix 20 _⇒_
 abbrev pub first : List Test → Verdict
 first [] = Accepted
 first (t ∷ ts) = cond (t .holds) (Refused (t .refusal)) (first ts)
+
+-- one check after another: the second speaks only where the first accepts
+abbrev pub andThen : Verdict → Verdict → Verdict
+andThen Accepted v = v
+andThen (Refused r) v = Refused r

@@ -15,12 +15,12 @@ use Rattle.numbers.specs.Overlay.{overlay}
 use Rattle.numbers.proofs.Overlay.{drop-overlay, take-overlay}
 use Rattle.numbers.proofs.Every.{and-split}
 use Rattle.numbers.proofs.Ways.{never, or-none}
-use Rattle.record.specs.Refusal.{first}
+use Rattle.record.specs.Refusal.{first, andThen}
 use Rattle.record.specs.declared.refusal.Refusal.{Refusal}
 use Rattle.record.specs.declared.refusal.Refusal.the-variants.{NoGivenNode, TooManyPoints, BufferTooShort}
 use Rattle.record.specs.declared.refusal.Verdict.{Verdict}
 use Rattle.record.specs.declared.refusal.Verdict.the-variants as verdict
-use Rattle.record.proofs.First.{passed, andThen, first-append}
+use Rattle.record.proofs.First.{passed, first-append}
 use Rattle.table.specs.Check.{tableTests, noRoom, roomTests}
 use Rattle.table.specs.declared.method.ConvexMonotone.{ConvexMonotone}
 use Rattle.table.specs.declared.ends.End.{End}
