@@ -1,8 +1,9 @@
 -- What an accepted query tells of the lengths, and what its verdict makes of the section that was found.
 use Prim.Native.Nat.{ℕ, _-_, _*_, _≤_}
 use mathlib.Core.List.{List}
-use mathlib.Core.Path.{_≡_}
-use borrow.Author.Tests.{ltb-false}
+use mathlib.Core.Bool.{true}
+use mathlib.Core.Path.{_≡_, sym, _∙_}
+use borrow.Author.Tests.{ltb-false, not-false}
 use lib.Dec.{ltb}
 use lib.Ieee.{Float}
 use lib.ListN.{length}
@@ -16,9 +17,10 @@ use Rattle.record.specs.declared.refusal.Refusal.{Refusal}
 use Rattle.record.specs.declared.refusal.Refusal.the-variants.{RecordNotLegal}
 use Rattle.record.specs.declared.refusal.Verdict.{Verdict}
 use Rattle.record.specs.declared.refusal.Verdict.the-variants as verdict
-use Rattle.record.proofs.First.{passed}
+use Rattle.record.proofs.First.{passed, both-accept, first-append}
+use Rattle.table.specs.Check.{rising}
 use Rattle.curve.specs.declared.curve.Curve.{Curve}
-use Rattle.query.specs.Query.{queryTests, coveredOf, ask, toldNumber}
+use Rattle.query.specs.Query.{curveTests, pointTests, queryTests, coveredOf, ask, toldNumber}
 use Rattle.query.specs.declared.single.Asked.{Asked}
 use Rattle.query.specs.declared.single.Covered.{Covered}
 use Rattle.query.specs.declared.single.Covered.the-variants as covered
@@ -29,10 +31,12 @@ pub record Reaches (x : List Float) (tags slots : ℕ) : Type 0 where
   pub high : length x ≤ 4096
   pub in-tags : length x - 1 ≤ tags
   pub in-slots : 24 * (length x - 1) ≤ slots
+  pub up : rising x ≡ true
 
-pub reaches : (x : List Float) (curve : Curve) (tags slots : ℕ) (q : Float) → first (queryTests x curve tags slots q) ≡ verdict.Accepted → Reaches x tags slots
-reaches x curve tags slots q h =
-    let t = passed (queryTests x curve tags slots q) h in
+-- a curve that passed its tests
+pub reached : (x : List Float) (tags slots : ℕ) → first (curveTests x tags slots) ≡ verdict.Accepted → Reaches x tags slots
+reached x tags slots h =
+    let t = passed (curveTests x tags slots) h in
     let n = length x in
     let r = or-none (ltb tags (n - 1)) (ltb slots (24 * (n - 1))) (t .1 .1 .1 .1 .0) in
     record {
@@ -40,7 +44,13 @@ reaches x curve tags slots q h =
       high = ltb-false 4096 n (t .1 .1 .1 .0);
       in-tags = ltb-false tags (n - 1) (r .0);
       in-slots = ltb-false slots (24 * (n - 1)) (r .1);
+      up = not-false (rising x) (t .1 .1 .0);
     }
+
+pub reaches : (x : List Float) (curve : Curve) (tags slots : ℕ) (q : Float) → first (queryTests x curve tags slots q) ≡ verdict.Accepted → Reaches x tags slots
+reaches x curve tags slots q h =
+    reached x tags slots
+    (both-accept (first (curveTests x tags slots)) (first (pointTests x curve q)) (sym (first-append (curveTests x tags slots) (pointTests x curve q)) ∙ h) .0)
 
 pub barred : (v : Verdict) (r : Refusal) (f : Found) → v ≡ verdict.Refused r → covered.Refused r ≡ coveredOf v f
 barred v r f e = rw e

@@ -30,6 +30,11 @@ pub accepted : (ts : List Test) → Passed ts → first ts ≡ Accepted
 accepted [] h = refl
 accepted (t ∷ ts) h = rw (h .0) (accepted ts (h .1))
 
+-- both accept, or the two together do not
+pub both-accept : (v w : Verdict) → andThen v w ≡ Accepted → (v ≡ Accepted) × (w ≡ Accepted)
+both-accept Accepted w h = (refl, h)
+both-accept (Refused r) w h = never (ap isAccepted h) refl
+
 cond-then : (b : Bool) (r : Refusal) (v w : Verdict) → cond b (Refused r) (andThen v w) ≡ andThen (cond b (Refused r) v) w
 cond-then true r v w = refl
 cond-then false r v w = refl

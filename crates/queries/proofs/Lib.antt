@@ -1,0 +1,5 @@
+pub mod Alone
+pub mod Covering
+pub mod Room
+pub mod Sides
+pub mod Unique

@@ -1,0 +1,3 @@
+// Many queries of one curve, which is checked once.
+pub mod many;
+mod place;

@@ -1,0 +1,270 @@
+// Prices, or running totals, at many points of one curve. The knots are checked once, and nothing is written where any query is refused.
+use crate::place::place_from;
+use crate::place::search;
+use curve::curve::Curve;
+use query::single::curve_verdict;
+use query::single::point_verdict;
+use record::reading::Found;
+use record::reading::read_section;
+use record::refusal::Refusal;
+use record::refusal::Verdict;
+use record::slots::SLOTS;
+use section::everywhere_constant::EverywhereConstant;
+use section::section::Section;
+ghost use mathlib.Core.Path.{_≡_};
+ghost use mathlib.Core.Bool.{true};
+ghost use Prim.Native.Nat.{ℕ, _+_, _-_, _*_, _≤_, _<_};
+ghost use lib.ListN.{length};
+ghost use Rattle.numbers.specs.Every.{allBelow};
+ghost use Rattle.section.specs.Section.{value, primitive};
+ghost use Rattle.record.specs.Refusal.{first};
+ghost use Rattle.record.specs.declared.refusal.Verdict.the-variants.{Accepted};
+ghost use Rattle.shape.specs.Making.{left};
+ghost use Rattle.table.specs.Table.{at};
+ghost use Rattle.query.specs.Query.{curveTests, tailSection, covering, coveredAt};
+ghost use Rattle.queries.specs.Many.{numberIn, verdictOf, manyTests, queriesVerdict, manyVerdict, answersAfter, figure, recordAt, isLegal};
+
+// What is asked at each point.
+pub enum Wanted {
+    Price,
+    Total,
+}
+
+fn figure(wanted: Wanted, section: Section, q: f64) -> f64
+    ensures { λ r. ⌜ r ≡ figure wanted section q ⌝ }
+{
+    match wanted {
+        Wanted::Price => section.value(q),
+        Wanted::Total => section.primitive(q),
+    }
+}
+
+fn read_at(tags: &[u16], slots: &[f64], i: usize) -> Found
+    requires { ⌜ (i < length (now tags)) × (24 * i + 24 ≤ length (now slots)) × (i < 4096) ⌝ }
+    ensures { λ r. ⌜ r ≡ recordAt (now (tags .entry)) (now (slots .entry)) i ⌝ }
+{
+    let from = SLOTS * i;
+    read_section(tags[i], &slots[from..from + SLOTS])
+}
+
+fn is_legal(found: Found) -> bool
+    ensures { λ r. ⌜ r ≡ isLegal found ⌝ }
+{
+    match found {
+        Found::Section(_) => true,
+        Found::Illegal => false,
+    }
+}
+
+// Whether every record is legal. Then no query needs to look at its own.
+fn all_legal(tags: &[u16], slots: &[f64], sections: usize) -> bool
+    requires { ⌜ (sections ≤ length (now tags)) × (24 * sections ≤ length (now slots)) × (sections ≤ 4096) ⌝ }
+    ensures { λ r. ⌜ r ≡ allBelow sections (λ i. isLegal (recordAt (now (tags .entry)) (now (slots .entry)) i)) ⌝ }
+{
+    for i in 0..sections {
+        if !is_legal(read_at(tags, slots, i)) {
+            return false;
+        }
+    }
+    true
+}
+
+// Whether the record that answers a query is legal; from the last knot on none is read.
+fn answers_legally(xs: &[f64], curve: Curve, tags: &[u16], slots: &[f64], q: f64) -> bool
+    requires { ⌜ (first (curveTests (now xs) (length (now tags)) (length (now slots))) ≡ Accepted) ⌝ }
+    ensures { λ r. ⌜ r ≡ isLegal (covering (now (xs .entry)) curve (now (tags .entry)) (now (slots .entry)) q) ⌝ }
+{
+    let end = xs.len() - 1;
+    if xs[end] <= q {
+        return true;
+    }
+    is_legal(read_at(tags, slots, search(xs, q)))
+}
+
+// Refusals 12, 13 and 15 of one query. `legal` says that every record is known to be.
+fn query_verdict(
+    xs: &[f64],
+    curve: Curve,
+    tags: &[u16],
+    slots: &[f64],
+    legal: bool,
+    q: f64,
+) -> Verdict
+    requires { ⌜ (first (curveTests (now xs) (length (now tags)) (length (now slots))) ≡ Accepted) ⌝ }
+    requires { ⌜ (legal ≡ true → allBelow (length (now xs) - 1) (λ i. isLegal (recordAt (now tags) (now slots) i)) ≡ true) ⌝ }
+    ensures { λ r. ⌜ r ≡ verdictOf (coveredAt (now (xs .entry)) curve (now (tags .entry)) (now (slots .entry)) q) ⌝ }
+{
+    let verdict = point_verdict(xs, curve, q);
+    match verdict {
+        Verdict::Refused(_) => verdict,
+        Verdict::Accepted => {
+            if legal {
+                return verdict;
+            }
+            if answers_legally(xs, curve, tags, slots, q) {
+                return verdict;
+            }
+            Verdict::Refused(Refusal::RecordNotLegal)
+        }
+    }
+}
+
+// Where the queries are as many as the points, looking at every record once is less work than looking at one for each query.
+fn known_legal(xs: &[f64], tags: &[u16], slots: &[f64], queries: usize) -> bool
+    requires { ⌜ (first (curveTests (now xs) (length (now tags)) (length (now slots))) ≡ Accepted) ⌝ }
+    ensures { λ r. ⌜ (r ≡ true → allBelow (length (now (xs .entry)) - 1) (λ i. isLegal (recordAt (now (tags .entry)) (now (slots .entry)) i)) ≡ true) ⌝ }
+{
+    if queries < xs.len() {
+        return false;
+    }
+    all_legal(tags, slots, xs.len() - 1)
+}
+
+// The first refusal of the queries, in their order.
+fn queries_verdict(xs: &[f64], curve: Curve, tags: &[u16], slots: &[f64], qs: &[f64]) -> Verdict
+    requires { ⌜ (first (curveTests (now xs) (length (now tags)) (length (now slots))) ≡ Accepted) ⌝ }
+    ensures { λ r. ⌜ r ≡ queriesVerdict (now (xs .entry)) curve (now (tags .entry)) (now (slots .entry)) (now (qs .entry)) ⌝ }
+{
+    let legal = known_legal(xs, tags, slots, qs.len());
+    for i in 0..qs.len() {
+        let verdict = query_verdict(xs, curve, tags, slots, legal, qs[i]);
+        match verdict {
+            Verdict::Refused(_) => {
+                return verdict;
+            }
+            Verdict::Accepted => {}
+        }
+    }
+    Verdict::Accepted
+}
+
+// What the record that was read answers.
+fn number_in(found: Found, wanted: Wanted, q: f64) -> f64
+    ensures { λ r. ⌜ r ≡ numberIn found wanted q ⌝ }
+{
+    match found {
+        Found::Section(section) => figure(wanted, section, q),
+        Found::Illegal => 0.0,
+    }
+}
+
+// What the curve's own record answers, from the last knot on.
+fn tail_number(curve: Curve, wanted: Wanted, q: f64) -> f64
+    ensures { λ r. ⌜ r ≡ figure wanted (tailSection curve) q ⌝ }
+{
+    let tail = curve.tail;
+    figure(
+        wanted,
+        Section::EverywhereConstant(EverywhereConstant::new(tail.value, tail.total, tail.from)),
+        q,
+    )
+}
+
+// Writes the answers of queries that were not refused. A record is read when the place changes, and not for each query.
+fn fill(
+    wanted: Wanted,
+    xs: &[f64],
+    curve: Curve,
+    tags: &[u16],
+    slots: &[f64],
+    qs: &[f64],
+    out: &mut [f64],
+)
+    requires { ⌜ (first (curveTests (now xs) (length (now tags)) (length (now slots))) ≡ Accepted) ⌝ }
+    requires { ⌜ (queriesVerdict (now xs) curve (now tags) (now slots) (now qs) ≡ Accepted) × (length (now qs) ≤ length (now out)) ⌝ }
+    ensures { λ _. ⌜ now (out .exit) ≡ answersAfter (figure wanted) (now (xs .entry)) curve (now (tags .entry)) (now (slots .entry)) (now (qs .entry)) (now (out .entry)) ⌝ }
+{
+    let end = xs[xs.len() - 1];
+    let mut at: usize = 0;
+    let mut found = read_at(tags, slots, 0);
+    for i in 0..qs.len() {
+        let q = qs[i];
+        if end <= q {
+            out[i] = tail_number(curve, wanted, q);
+            continue;
+        }
+        let place = place_from(xs, q, at);
+        if place == at {
+            out[i] = number_in(found, wanted, q);
+            continue;
+        }
+        at = place;
+        found = read_at(tags, slots, place);
+        out[i] = number_in(found, wanted, q);
+    }
+}
+
+fn many_verdict(
+    xs: &[f64],
+    curve: Curve,
+    tags: &[u16],
+    slots: &[f64],
+    qs: &[f64],
+    room: usize,
+) -> Verdict
+    ensures { λ r. ⌜ r ≡ manyVerdict (now (xs .entry)) curve (now (tags .entry)) (now (slots .entry)) (now (qs .entry)) room ⌝ }
+{
+    let verdict = curve_verdict(xs, tags.len(), slots.len());
+    match verdict {
+        Verdict::Refused(_) => verdict,
+        Verdict::Accepted => {
+            if room < qs.len() {
+                return Verdict::Refused(Refusal::BufferTooShort);
+            }
+            queries_verdict(xs, curve, tags, slots, qs)
+        }
+    }
+}
+
+// What is wanted at each point, into the first entries of `out`, or the first refusal.
+fn answers(
+    wanted: Wanted,
+    xs: &[f64],
+    curve: Curve,
+    tags: &[u16],
+    slots: &[f64],
+    qs: &[f64],
+    out: &mut [f64],
+) -> Verdict
+    ensures verdict { λ r. ⌜ r ≡ manyVerdict (now (xs .entry)) curve (now (tags .entry)) (now (slots .entry)) (now (qs .entry)) (length (now (out .entry))) ⌝ }
+    ensures out { λ _. ⌜ now (out .exit) ≡ left (manyVerdict (now (xs .entry)) curve (now (tags .entry)) (now (slots .entry)) (now (qs .entry)) (length (now (out .entry)))) (answersAfter (figure wanted) (now (xs .entry)) curve (now (tags .entry)) (now (slots .entry)) (now (qs .entry)) (now (out .entry))) (now (out .entry)) ⌝ }
+{
+    let verdict = many_verdict(xs, curve, tags, slots, qs, out.len());
+    match verdict {
+        Verdict::Refused(_) => verdict,
+        Verdict::Accepted => {
+            fill(wanted, xs, curve, tags, slots, qs, out);
+            verdict
+        }
+    }
+}
+
+// The price at each of many points, each as `value` tells it.
+pub fn values(
+    xs: &[f64],
+    curve: Curve,
+    tags: &[u16],
+    slots: &[f64],
+    qs: &[f64],
+    out: &mut [f64],
+) -> Verdict
+    ensures verdict { λ r. ⌜ r ≡ manyVerdict (now (xs .entry)) curve (now (tags .entry)) (now (slots .entry)) (now (qs .entry)) (length (now (out .entry))) ⌝ }
+    ensures out { λ _. ⌜ now (out .exit) ≡ left (manyVerdict (now (xs .entry)) curve (now (tags .entry)) (now (slots .entry)) (now (qs .entry)) (length (now (out .entry)))) (answersAfter value (now (xs .entry)) curve (now (tags .entry)) (now (slots .entry)) (now (qs .entry)) (now (out .entry))) (now (out .entry)) ⌝ }
+{
+    answers(Wanted::Price, xs, curve, tags, slots, qs, out)
+}
+
+// The total up to each of many points, each as `primitive` tells it.
+pub fn primitives(
+    xs: &[f64],
+    curve: Curve,
+    tags: &[u16],
+    slots: &[f64],
+    qs: &[f64],
+    out: &mut [f64],
+) -> Verdict
+    ensures verdict { λ r. ⌜ r ≡ manyVerdict (now (xs .entry)) curve (now (tags .entry)) (now (slots .entry)) (now (qs .entry)) (length (now (out .entry))) ⌝ }
+    ensures out { λ _. ⌜ now (out .exit) ≡ left (manyVerdict (now (xs .entry)) curve (now (tags .entry)) (now (slots .entry)) (now (qs .entry)) (length (now (out .entry)))) (answersAfter primitive (now (xs .entry)) curve (now (tags .entry)) (now (slots .entry)) (now (qs .entry)) (now (out .entry))) (now (out .entry)) ⌝ }
+{
+    answers(Wanted::Total, xs, curve, tags, slots, qs, out)
+}
