@@ -1,0 +1,9 @@
+//! The rows, by what they measure.
+
+pub mod build;
+pub mod growth;
+pub mod query;
+pub mod root;
+
+/// The sizes of table that are measured: a year of months, five years, a year of trading days and more, and the most that is taken.
+pub const SIZES: [usize; 4] = [13, 61, 400, 4096];

@@ -1,0 +1,117 @@
+//! The library over lent buffers, which are made once and never cleared.
+
+use havgrunel::lent::{self, Buffers, Curve, Previous};
+use havgrunel::{ConvexMonotone, MOST_POINTS, Refusal, SLOTS};
+use oracle::Settings;
+
+use crate::tables::Table;
+
+/// Room for any curve.
+pub struct Room {
+    pub nodes: Vec<f64>,
+    pub tags: Vec<u16>,
+    pub slots: Vec<f64>,
+}
+
+pub fn method(settings: &Settings) -> ConvexMonotone {
+    ConvexMonotone::new(
+        settings.quadraticity,
+        settings.monotonicity,
+        settings.positivity,
+    )
+}
+
+impl Room {
+    pub fn new() -> Room {
+        Room {
+            nodes: vec![0.0; MOST_POINTS],
+            tags: vec![0; MOST_POINTS - 1],
+            slots: vec![0.0; SLOTS * (MOST_POINTS - 1)],
+        }
+    }
+
+    fn lent(&mut self) -> Buffers<'_> {
+        Buffers {
+            nodes: &mut self.nodes,
+            tags: &mut self.tags,
+            slots: &mut self.slots,
+        }
+    }
+
+    pub fn build(&mut self, method: ConvexMonotone, table: &Table) -> Result<Curve, Refusal> {
+        let Table { knots, averages } = table;
+        lent::build(knots, averages, method, false, None, self.lent())
+    }
+
+    /// The curve of the first points of a table, grown from the one that `previous` tells of, whose records are in `from`.
+    pub fn grow(
+        &mut self,
+        method: ConvexMonotone,
+        (knots, averages): (&[f64], &[f64]),
+        localisation: usize,
+        previous: Option<(&Room, Curve)>,
+        final_size: usize,
+    ) -> Result<Curve, Refusal> {
+        let previous = previous.map(|(room, curve)| Previous {
+            sections: curve.sections,
+            held: curve.held,
+            tags: &room.tags,
+            slots: &room.slots,
+        });
+        lent::grow(
+            knots,
+            averages,
+            method,
+            localisation,
+            previous,
+            final_size,
+            self.lent(),
+        )
+    }
+}
+
+/// A curve that was built, to be asked.
+pub struct Built<'a> {
+    pub knots: &'a [f64],
+    pub curve: Curve,
+    pub room: Room,
+}
+
+impl<'a> Built<'a> {
+    pub fn new(method: ConvexMonotone, table: &'a Table) -> Built<'a> {
+        let mut room = Room::new();
+        let curve = room.build(method, table).expect("a winter is built");
+        Built {
+            knots: &table.knots,
+            curve,
+            room,
+        }
+    }
+
+    pub fn value(&self, x: f64) -> Result<f64, Refusal> {
+        let Room { tags, slots, .. } = &self.room;
+        lent::value(self.knots, &self.curve, tags, slots, x)
+    }
+
+    pub fn primitive(&self, x: f64) -> Result<f64, Refusal> {
+        let Room { tags, slots, .. } = &self.room;
+        lent::primitive(self.knots, &self.curve, tags, slots, x)
+    }
+
+    // The two functions below are the one place where many queries are asked. They are single queries in a loop for as long as the
+    // library has no entry that takes a slice of them.
+
+    pub fn values(&self, queries: &[f64], answers: &mut [f64]) -> Result<(), Refusal> {
+        for (&x, answer) in queries.iter().zip(answers) {
+            *answer = self.value(x)?;
+        }
+        Ok(())
+    }
+
+    pub fn primitives(&self, queries: &[f64], answers: &mut [f64]) -> Result<(), Refusal> {
+        for (&x, answer) in queries.iter().zip(answers) {
+            *answer = self.primitive(x)?;
+        }
+        Ok(())
+    }
+}

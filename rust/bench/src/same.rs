@@ -1,0 +1,55 @@
+//! Whether both sides answer the same, bit for bit, any NaN matching any NaN. A row is measured only where they do.
+
+use havgrunel::SLOTS;
+use havgrunel::lent::Curve;
+use oracle::words::same;
+use oracle::{Settings, plain};
+
+use crate::ours::Room;
+
+/// Says where a side differs, and ends the program.
+pub fn numbers(what: &str, ours: &[f64], theirs: &[f64]) {
+    assert_eq!(ours.len(), theirs.len(), "{what}: the counts differ");
+    for (place, (&ours, &theirs)) in ours.iter().zip(theirs).enumerate() {
+        assert!(
+            same(ours, theirs),
+            "{what}: at {place} the library has {ours:?}, the original {theirs:?}"
+        );
+    }
+}
+
+/// Holds a curve against the original's: its nodes, every record and what answers beyond its last knot, then prices and totals of the
+/// very curve that is measured.
+pub fn curves(
+    what: &str,
+    settings: &Settings,
+    knots: &[f64],
+    (room, curve): (&Room, &Curve),
+    (told, measured): (&oracle::Curve, &plain::Curve),
+) {
+    assert_eq!(curve.sections, told.sections(), "{what}: the counts differ");
+    for place in 0..curve.sections {
+        let record = told.record(place);
+        assert_eq!(room.tags[place], record.tag, "{what}: tag {place} differs");
+        numbers(what, &room.slots[SLOTS * place..][..SLOTS], &record.slots);
+    }
+    let tail = curve.tail;
+    numbers(
+        what,
+        &[tail.value, tail.total, tail.from],
+        &told.extrapolation(),
+    );
+    let middles = knots
+        .windows(2)
+        .map(|pair| pair[0] + (pair[1] - pair[0]) * 0.375);
+    for x in knots.iter().copied().chain(middles) {
+        let (tags, slots) = (&room.tags, &room.slots);
+        let ours = [
+            havgrunel::lent::value(knots, curve, tags, slots, x).expect("a knot's price"),
+            havgrunel::lent::primitive(knots, curve, tags, slots, x).expect("a knot's total"),
+        ];
+        let theirs = [measured.value(x), measured.primitive(x)];
+        let theirs = theirs.map(|answer| answer.unwrap_or_else(|_| panic!("{what}: no answer")));
+        numbers(&format!("{what}, {settings:?}, at {x:?}"), &ours, &theirs);
+    }
+}

@@ -1,0 +1,105 @@
+//! Both sides measured in turn.
+//!
+//! A round is a sample of the library and then one of the original, so that a machine that slows down for a while slows both. A sample
+//! is taken over as many turns as are needed to be far above the clock's grain.
+
+use std::time::{Duration, Instant};
+
+use crate::options::{FEWEST, Options};
+use crate::statistics::{median, percentile};
+
+/// What one row measured, in nanoseconds to a unit.
+pub struct Row {
+    pub name: String,
+    pub unit: &'static str,
+    pub rounds: usize,
+    pub ours: f64,
+    pub theirs: Option<Theirs>,
+}
+
+/// The other side of a row, and the library's time over its time in the rounds.
+pub struct Theirs {
+    pub time: f64,
+    pub ratio: f64,
+    pub tenth: f64,
+    pub ninetieth: f64,
+}
+
+type Turn<'a> = &'a mut dyn FnMut();
+
+struct Side<'a> {
+    turn: Turn<'a>,
+    repetitions: u32,
+    samples: Vec<f64>,
+}
+
+impl<'a> Side<'a> {
+    /// Warms the side up, and finds how many turns make a sample.
+    fn new(turn: Turn<'a>, least: Duration) -> Side<'a> {
+        let mut repetitions = 1;
+        loop {
+            let start = Instant::now();
+            for _ in 0..repetitions {
+                turn();
+            }
+            if start.elapsed() >= least {
+                break;
+            }
+            repetitions *= 2;
+        }
+        Side {
+            turn,
+            repetitions,
+            samples: Vec::new(),
+        }
+    }
+
+    fn sample(&mut self) {
+        let start = Instant::now();
+        for _ in 0..self.repetitions {
+            (self.turn)();
+        }
+        let time = start.elapsed().as_nanos() as f64;
+        self.samples.push(time / f64::from(self.repetitions));
+    }
+}
+
+/// Measures a row: each turn of a side does the same `units` of work.
+pub fn measure(
+    options: &Options,
+    name: String,
+    unit: &'static str,
+    units: usize,
+    ours: Turn<'_>,
+    theirs: Option<Turn<'_>>,
+) -> Row {
+    let mut ours = Side::new(ours, options.sample);
+    let mut theirs = theirs.map(|turn| Side::new(turn, options.sample));
+    let start = Instant::now();
+    let mut rounds = 0;
+    while rounds < options.rounds && (rounds < FEWEST || start.elapsed() < options.row) {
+        ours.sample();
+        if let Some(theirs) = &mut theirs {
+            theirs.sample();
+        }
+        rounds += 1;
+    }
+    let units = units as f64;
+    let theirs = theirs.map(|theirs| {
+        let pairs = ours.samples.iter().zip(&theirs.samples);
+        let ratios: Vec<f64> = pairs.map(|(ours, theirs)| ours / theirs).collect();
+        Theirs {
+            time: median(&theirs.samples) / units,
+            ratio: median(&ratios),
+            tenth: percentile(&ratios, 0.1),
+            ninetieth: percentile(&ratios, 0.9),
+        }
+    });
+    Row {
+        name,
+        unit,
+        rounds,
+        ours: median(&ours.samples) / units,
+        theirs,
+    }
+}
