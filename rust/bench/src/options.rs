@@ -4,18 +4,20 @@ use std::time::Duration;
 
 pub const USAGE: &str = "bench [--rounds N] [--only NAME] [--quick]
 
-  --rounds N    how many rounds a row is measured for (101); rows that take long get fewer, and say so
+  --rounds N    how many rounds a row is measured for (401); a row that takes long gets fewer
   --only NAME   only the rows whose name has NAME in it
-  --quick       shorter samples and 15 rounds, for a first look";
+  --quick       51 rounds, for a first look";
 
 /// The fewest rounds of a row, however long it takes.
 pub const FEWEST: usize = 5;
 
+/// The shortest time that a sample is taken over: thousands of times the clock's grain, and so short that the system seldom
+/// gives the processor to someone else within it.
+pub const SAMPLE: Duration = Duration::from_micros(250);
+
 pub struct Options {
     pub rounds: usize,
     pub only: String,
-    /// The shortest time that a sample is taken over.
-    pub sample: Duration,
     /// The time after which a row gets no further rounds.
     pub row: Duration,
 }
@@ -40,11 +42,10 @@ impl Options {
                 _ => return Err(format!("{word:?} is no option")),
             }
         }
-        let (usual, sample, row) = if quick { (15, 400, 1) } else { (101, 2000, 5) };
+        let (usual, row) = if quick { (51, 1) } else { (401, 5) };
         Ok(Options {
             rounds: rounds.unwrap_or(usual),
             only,
-            sample: Duration::from_micros(sample),
             row: Duration::from_secs(row),
         })
     }
@@ -62,8 +63,8 @@ mod tests {
     fn options_are_read() {
         let options = read("--only build --rounds 7 --quick").unwrap();
         assert_eq!((options.rounds, options.only.as_str()), (7, "build"));
-        assert_eq!(read("").unwrap().rounds, 101);
-        assert_eq!(read("--quick").unwrap().rounds, 15);
+        assert_eq!(read("").unwrap().rounds, 401);
+        assert_eq!(read("--quick").unwrap().rounds, 51);
     }
 
     #[test]

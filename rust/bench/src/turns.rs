@@ -5,7 +5,7 @@
 
 use std::time::{Duration, Instant};
 
-use crate::options::{FEWEST, Options};
+use crate::options::{FEWEST, Options, SAMPLE};
 use crate::statistics::{median, percentile};
 
 /// What one row measured, in nanoseconds to a unit.
@@ -34,32 +34,29 @@ struct Side<'a> {
 }
 
 impl<'a> Side<'a> {
-    /// Warms the side up, and finds how many turns make a sample.
-    fn new(turn: Turn<'a>, least: Duration) -> Side<'a> {
-        let mut repetitions = 1;
-        loop {
-            let start = Instant::now();
-            for _ in 0..repetitions {
-                turn();
-            }
-            if start.elapsed() >= least {
-                break;
-            }
-            repetitions *= 2;
-        }
-        Side {
+    /// Warms the side up, and finds how many turns make a sample. The shortest of three tries counts, since one can be long by chance.
+    fn new(turn: Turn<'a>) -> Side<'a> {
+        let mut side = Side {
             turn,
-            repetitions,
+            repetitions: 1,
             samples: Vec::new(),
+        };
+        while (0..3).any(|_| side.time() < SAMPLE) {
+            side.repetitions *= 2;
         }
+        side
     }
 
-    fn sample(&mut self) {
+    fn time(&mut self) -> Duration {
         let start = Instant::now();
         for _ in 0..self.repetitions {
             (self.turn)();
         }
-        let time = start.elapsed().as_nanos() as f64;
+        start.elapsed()
+    }
+
+    fn sample(&mut self) {
+        let time = self.time().as_nanos() as f64;
         self.samples.push(time / f64::from(self.repetitions));
     }
 }
@@ -73,8 +70,8 @@ pub fn measure(
     ours: Turn<'_>,
     theirs: Option<Turn<'_>>,
 ) -> Row {
-    let mut ours = Side::new(ours, options.sample);
-    let mut theirs = theirs.map(|turn| Side::new(turn, options.sample));
+    let mut ours = Side::new(ours);
+    let mut theirs = theirs.map(Side::new);
     let start = Instant::now();
     let mut rounds = 0;
     while rounds < options.rounds && (rounds < FEWEST || start.elapsed() < options.row) {
