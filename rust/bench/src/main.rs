@@ -5,6 +5,7 @@
 //! times are medians. docs/PERFORMANCE.md says what is measured and how to read it.
 
 mod cases;
+mod clock;
 mod kinds;
 mod options;
 mod ours;

@@ -11,7 +11,7 @@ pub const USAGE: &str = "bench [--rounds N] [--only NAME] [--quick]
 /// The fewest rounds of a row, however long it takes.
 pub const FEWEST: usize = 5;
 
-/// The shortest time that a sample is taken over: thousands of times the clock's grain, and so short that the system seldom
+/// The shortest time that a sample is taken over: a thousand times what it takes to read the clock, and so short that the system seldom
 /// gives the processor to someone else within it.
 pub const SAMPLE: Duration = Duration::from_micros(250);
 
@@ -42,7 +42,7 @@ impl Options {
                 _ => return Err(format!("{word:?} is no option")),
             }
         }
-        let (usual, row) = if quick { (51, 1) } else { (401, 5) };
+        let (usual, row) = if quick { (51, 1) } else { (401, 4) };
         Ok(Options {
             rounds: rounds.unwrap_or(usual),
             only,

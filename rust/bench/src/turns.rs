@@ -5,6 +5,7 @@
 
 use std::time::{Duration, Instant};
 
+use crate::clock;
 use crate::options::{FEWEST, Options, SAMPLE};
 use crate::statistics::{median, percentile};
 
@@ -48,11 +49,11 @@ impl<'a> Side<'a> {
     }
 
     fn time(&mut self) -> Duration {
-        let start = Instant::now();
+        let start = clock::now();
         for _ in 0..self.repetitions {
             (self.turn)();
         }
-        start.elapsed()
+        clock::now() - start
     }
 
     fn sample(&mut self) {
