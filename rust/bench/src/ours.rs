@@ -43,7 +43,7 @@ impl Room {
         lent::build(knots, averages, method, false, None, self.lent())
     }
 
-    /// The curve of the first points of a table, grown from the one that `previous` tells of, whose records are in `from`.
+    /// The curve of the first points of a table, grown from a previous one and the room that holds its records.
     pub fn grow(
         &mut self,
         method: ConvexMonotone,

@@ -18,7 +18,7 @@ pub fn numbers(what: &str, ours: &[f64], theirs: &[f64]) {
     }
 }
 
-/// Holds a curve against the original's: its nodes, every record and what answers beyond its last knot, then prices and totals of the
+/// Holds a curve against the original's: every record and what answers beyond its last knot, then prices and totals of the
 /// very curve that is measured.
 pub fn curves(
     what: &str,

@@ -3,18 +3,13 @@
 
 use std::hint::black_box;
 
-use oracle::{AT_HAND, Settings, plain};
+use oracle::{AT_HAND, plain};
 
+use super::USUAL;
 use crate::ours::{Room, method};
 use crate::report::Report;
 use crate::same;
 use crate::tables::{Table, winter};
-
-const SETTINGS: Settings = Settings {
-    quadraticity: 0.3,
-    monotonicity: 0.7,
-    positivity: true,
-};
 
 /// How many periods the first curve has.
 const LOCALISATION: usize = 2;
@@ -32,7 +27,7 @@ fn ours(
         let part = (&table.knots[..points], &table.averages[..points]);
         let from = previous.map(|curve| (&*old, curve));
         let curve = new
-            .grow(method(&SETTINGS), part, LOCALISATION, from, table.points())
+            .grow(method(&USUAL), part, LOCALISATION, from, table.points())
             .expect("a winter grows");
         see(points, new, curve);
         previous = Some(curve);
@@ -47,7 +42,7 @@ fn theirs(table: &Table, mut see: impl FnMut(&plain::Curve)) {
         let (knots, averages) = (&table.knots[..points], &table.averages[..points]);
         let from = previous.as_ref();
         let size = table.points();
-        let curve = plain::grow(&SETTINGS, knots, averages, LOCALISATION, from, size)
+        let curve = plain::grow(&USUAL, knots, averages, LOCALISATION, from, size)
             .unwrap_or_else(|_| panic!("the original grows a winter"));
         see(&curve);
         previous = Some(curve);
@@ -61,12 +56,12 @@ fn check(table: &Table, rooms: &mut [Room; 2]) {
         let (knots, averages) = (&table.knots[..points], &table.averages[..points]);
         let size = table.points();
         let from = told.as_ref();
-        let other = oracle::grow(&SETTINGS, knots, averages, LOCALISATION, from, size);
+        let other = oracle::grow(&USUAL, knots, averages, LOCALISATION, from, size);
         let other = other.expect("the original grows a winter");
         let from = measured.as_ref();
-        let bare = plain::grow(&SETTINGS, knots, averages, LOCALISATION, from, size);
+        let bare = plain::grow(&USUAL, knots, averages, LOCALISATION, from, size);
         let bare = bare.unwrap_or_else(|_| panic!("the original grows a winter"));
-        same::curves("growth", &SETTINGS, knots, (room, &curve), (&other, &bare));
+        same::curves("growth", &USUAL, knots, (room, &curve), (&other, &bare));
         told = Some(other);
         measured = Some(bare);
     });

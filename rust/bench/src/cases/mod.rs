@@ -1,5 +1,7 @@
 //! The rows, by what they measure.
 
+use oracle::Settings;
+
 pub mod build;
 pub mod growth;
 pub mod query;
@@ -7,3 +9,10 @@ pub mod root;
 
 /// The sizes of table that are measured: a year of months, five years, a year of trading days and more, and the most that is taken.
 pub const SIZES: [usize; 4] = [13, 61, 400, 4096];
+
+/// The settings that the method has where nothing else is asked for.
+const USUAL: Settings = Settings {
+    quadraticity: 0.3,
+    monotonicity: 0.7,
+    positivity: true,
+};

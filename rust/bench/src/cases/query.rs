@@ -3,21 +3,14 @@
 
 use std::hint::black_box;
 
-use havgrunel::Refusal;
 use oracle::answers::rng::Rng;
-use oracle::{AT_HAND, Settings, plain};
+use oracle::{AT_HAND, plain};
 
-use super::SIZES;
+use super::{SIZES, USUAL};
 use crate::ours::{Built, method};
 use crate::report::Report;
 use crate::same;
 use crate::tables::{Table, winter};
-
-const SETTINGS: Settings = Settings {
-    quadraticity: 0.3,
-    monotonicity: 0.7,
-    positivity: true,
-};
 
 /// How many queries a turn of single queries asks.
 const SINGLE: usize = 512;
@@ -39,11 +32,12 @@ impl Asked {
         }
     }
 
-    fn ours(self, curve: &Built<'_>, x: f64) -> Result<f64, Refusal> {
+    fn ours(self, curve: &Built<'_>, x: f64) -> f64 {
         match self {
             Asked::Value => curve.value(x),
             Asked::Primitive => curve.primitive(x),
         }
+        .unwrap_or(f64::NAN)
     }
 
     fn all_ours(self, curve: &Built<'_>, queries: &[f64], answers: &mut [f64]) {
@@ -71,7 +65,7 @@ fn places(table: &Table, count: usize) -> Vec<f64> {
 
 fn original(table: &Table) -> Option<plain::Curve> {
     AT_HAND.then(|| {
-        plain::build(&SETTINGS, &table.knots, &table.averages)
+        plain::build(&USUAL, &table.knots, &table.averages)
             .unwrap_or_else(|_| panic!("the original builds a winter"))
     })
 }
@@ -85,12 +79,10 @@ pub fn single(report: &mut Report) {
             }
             let table = winter(points);
             let places = places(&table, SINGLE);
-            let built = Built::new(method(&SETTINGS), &table);
+            let built = Built::new(method(&USUAL), &table);
             let original = original(&table);
             if let Some(original) = &original {
-                let ours = places
-                    .iter()
-                    .map(|&x| asked.ours(&built, x).expect("in range"));
+                let ours = places.iter().map(|&x| asked.ours(&built, x));
                 let theirs = places.iter().map(|&x| asked.theirs(original, x));
                 same::numbers(
                     &name,
@@ -100,7 +92,7 @@ pub fn single(report: &mut Report) {
             }
             let mut ours = || {
                 for &x in &places {
-                    black_box(asked.ours(black_box(&built), black_box(x)).is_ok());
+                    black_box(asked.ours(black_box(&built), black_box(x)));
                 }
             };
             let mut theirs = original.as_ref().map(|original| {
@@ -128,7 +120,7 @@ pub fn many(report: &mut Report) {
             if !report.wants(&name) {
                 continue;
             }
-            let built = Built::new(method(&SETTINGS), &table);
+            let built = Built::new(method(&USUAL), &table);
             let original = original(&table);
             let mut answers = vec![0.0; places.len()];
             let mut others = vec![0.0; places.len()];
