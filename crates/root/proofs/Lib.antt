@@ -1,5 +1,6 @@
 pub mod Powers
 pub mod Isqrt
+pub mod Neighbours
 pub mod Scaling
 pub mod Units
 pub mod Result

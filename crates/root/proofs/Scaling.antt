@@ -3,11 +3,12 @@ use Prim.Native.Nat.{ℕ, zero, suc, _+_, _-_, _*_, _/_, _%_, _^_, _≤_, _<_}
 use native.Mathlib.Omega.{arith}
 use native.Mathlib.Nat.{eq-zero-or-pos, le-of-eq, suc-mul, mul-one, mul-assoc, mul-div-cancel, mul-le-mul-right, le-trans, le-of-suc-le-suc, lt-of-le-of-lt, suc-add, mod-eq-of-lt}
 use mathlib.Core.Logic.{⊎-elim}
-use mathlib.Core.Path.{_≡_, sym, ap, _∙_}
+use mathlib.Core.Path.{_≡_, refl, sym, ap, _∙_}
 use lib.Pow.{pow-pos, pow-add, pow-mono, shl-lt}
 use lib.Count.{leadingZeros, leading-top}
 use lib.Ieee.{size}
-use Rattle.root.specs.Root.{pairs, scaled}
+use Rattle.root.specs.Root.{nearestRoot, pairs, scaled}
+use Rattle.root.proofs.Isqrt.{nearest-small}
 use Rattle.root.proofs.Powers.{lt-pow, pow-lt-back, size-is, four-pow}
 
 -- q has `zeros` leading zeros of 64, and its highest digit stands at place j
@@ -90,3 +91,24 @@ module _ (q k zeros : ℕ) (t : Placed q zeros) where
 
   pub scaled-range : (2 ^ 104 ≤ scaled (q * 2 ^ k)) × (scaled (q * 2 ^ k) + 2 ^ 53 ≤ 2 ^ 106)
   scaled-range = omega (arith, scaled-is, shifted-ge, shifted-below)
+
+-- a q of 53 digits needs no shift but that of an odd exponent
+module _ (q k : ℕ) (low : 2 ^ 52 ≤ q) (high : q < 2 ^ 53) where
+  full : Placed q 11
+  full = record { j = 52; sum = refl; low = low; high = high; small = omega arith }
+
+  pub full-pairs : k / 2 + 511 ≡ pairs (q * 2 ^ k) + 484
+  full-pairs = omega (arith, pairs-are q k 11 full)
+
+  bit-pow : (n : ℕ) → n < 2 → 2 ^ n ≡ n + 1
+  bit-pow zero h = refl
+  bit-pow (suc zero) h = refl
+  bit-pow (suc (suc n)) h = absurd (omega arith)
+
+  pub full-scaled : q * (k % 2 + 1) * 2 ^ 52 ≡ scaled (q * 2 ^ k)
+  full-scaled =
+      let e : 11 - 11 + (k + 65 - 11) % 2 ≡ k % 2 = omega arith in
+      ap (λ (x : ℕ). q * x * 2 ^ 52) (sym (bit-pow (k % 2) (omega arith)) ∙ ap (λ (n : ℕ). 2 ^ n) (sym e)) ∙ scaled-is q k 11 full
+
+  pub full-small : nearestRoot (scaled (q * 2 ^ k)) ≤ 2 ^ 53
+  full-small = let r = scaled-range q k 11 full in nearest-small (scaled (q * 2 ^ k)) (omega arith) (omega arith)

@@ -1,5 +1,6 @@
 // The square root, correctly rounded, by whole-number arithmetic.
 ghost use mathlib.Core.Path.{_≡_};
+ghost use mathlib.Core.Logic.{_⊎_};
 ghost use Prim.Native.Nat.{_+_, _*_, _^_, _≤_, _<_};
 ghost use Rattle.root.specs.Root.{root, nearestRoot};
 ghost use Rattle.root.specs.Bits.{rootBits, unitsOfBits};
@@ -42,17 +43,75 @@ fn root_of(q: u64, k: u64) -> u64
     (digits / 2 + 484) * 0x10_0000_0000_0000 + nearest_root(s)
 }
 
+// A root of the number from 4 to 16 that has these bits, to about an ulp; nothing is promised of it. Half the bits, taken from a constant, are those of a first
+// reciprocal root; its error is taken off twice, by a polynomial of it.
+fn guess(bits: u64) -> f64
+    requires { ⌜ bits < 2047 * 2 ^ 52 ⌝ }
+{
+    let a = f64::from_bits(bits);
+    let y = f64::from_bits(0x5fe6_0000_0000_0000 - bits / 2);
+    let e = a * y * y;
+    let z = y
+        * (2.2662252665892915 - 2.431073597065731 * e
+            + e * e * (1.5637160332219844 - 0.39886973639434736 * e));
+    let x = a * z;
+    let w = 1.0 - x * z;
+    x + x * (w * (0.5 + 0.375 * w))
+}
+
+// The whole number nearest to the square root of s * 2^52, found from one close by, or 0 where g is not seen to be close. The square of g is
+// whole * 2^50 + rest, exactly, and n - m is how far s * 2^52 lies above it; in the span that is looked at, g or one of its neighbours is nearest.
+fn settle(s: u64, g: u64) -> u64
+    requires { ⌜ (s < 2 ^ 54) × (2 ^ 52 ≤ g) × (g < 3 * 2 ^ 52) ⌝ }
+    ensures { λ r. ⌜ (r ≡ 0) ⊎ (r ≡ nearestRoot (s * 2 ^ 52)) ⌝ }
+{
+    let a = g / 0x200_0000;
+    let b = g % 0x200_0000;
+    let ab = a * b;
+    let whole = a * a + ab / 0x100_0000;
+    let rest = ab % 0x100_0000 * 0x400_0000 + b * b;
+    let span = a * 3 / 0x200_0000;
+    let top = s * 4 + span - 2;
+    if top < whole {
+        return 0;
+    }
+    let above = top - whole;
+    if span * 2 - 2 < above {
+        return 0;
+    }
+    let n = above * 0x4_0000_0000_0000;
+    let m = (span - 2) * 0x4_0000_0000_0000 + rest;
+    g + (m + g < n) as u64 - (n + g <= m) as u64
+}
+
+// The bits of the root of the normal number with these bits: a guess, made right by whole numbers, or the plain way where it was too far off.
+fn normal(bits: u64) -> u64
+    requires { ⌜ (2 ^ 52 ≤ bits) × (bits < 2047 * 2 ^ 52) ⌝ }
+    ensures { λ r. ⌜ r ≡ rootBits (unitsOfBits bits) ⌝ }
+{
+    let from = bits - 0x10_0000_0000_0000;
+    let q = from % 0x10_0000_0000_0000 + 0x10_0000_0000_0000;
+    let k = from / 0x10_0000_0000_0000;
+    let x = guess(from % 0x20_0000_0000_0000 + 0x4010_0000_0000_0000);
+    if x == x {
+        let g = f64::to_bits(x) % 0x20_0000_0000_0000 + 0x10_0000_0000_0000;
+        let r = settle(q * (k % 2 + 1), g);
+        if r != 0 {
+            return (k / 2 + 511) * 0x10_0000_0000_0000 + r;
+        }
+    }
+    root_of(q, k)
+}
+
 // The bits of the root of the positive finite number with these bits.
 fn positive(bits: u64) -> u64
     requires { ⌜ (0 < bits) × (bits < 2047 * 2 ^ 52) ⌝ }
     ensures { λ r. ⌜ r ≡ rootBits (unitsOfBits bits) ⌝ }
 {
-    let field = bits / 0x10_0000_0000_0000;
-    if field == 0 {
+    if bits < 0x10_0000_0000_0000 {
         return root_of(bits, 0);
     }
-    let k = field - 1;
-    root_of(bits - k * 0x10_0000_0000_0000, k)
+    normal(bits)
 }
 
 // The square root of a, rounded to the nearest. A zero, +infinity and a NaN are their own roots, and a number below zero has none.
