@@ -5,7 +5,8 @@ use mathlib.Core.Bool.{Bool, true, false, not}
 use mathlib.Core.Path.{_≡_, refl, sym, ap, subst, _∙_}
 use lib.IntN.{ℤ}
 use lib.Dec.{T}
-use lib.Ieee.{Float, nan, inf, fin, binary64, lt, eq, ne, div, fits, isNan, toBits, ofBits, nanBits}
+use borrow.Author.Tests.{le-ltb}
+use lib.Ieee.{Float, nan, inf, fin, binary64, lt, le, eq, ne, up, down, div, fits, isNan, toBits, ofBits, nanBits}
 use Rattle.numbers.specs.Words.{nought, finite}
 use Rattle.numbers.proofs.Ways.{never}
 use Rattle.numbers.proofs.Signs.{zero-is-zero, nonzero-is-not, minus-is-below, plus-is-not-below}
@@ -49,6 +50,22 @@ is-positive (inf s) z k h = never h refl
 is-positive (fin s zero e) z k h = never (zero-is-zero s e) z
 is-positive (fin true (suc m) e) z k h = never (minus-is-below m e) k
 is-positive (fin false (suc m) e) z k h = (m, e, refl)
+
+-- the two tests that come first: above 0.0, and at most the largest finite number
+pub above-zero : (a : Float) → lt nought a ≡ true → le a (ofBits binary64 0x7fef_ffff_ffff_ffff) ≡ true → Positive a
+unfolding lt le eq ofBits
+above-zero nan h k = never h refl
+above-zero (inf true) h k = never h refl
+above-zero (inf false) h k = never k refl
+above-zero (fin true m e) h k = never h refl
+above-zero (fin false zero e) h k = never h (le-ltb (0 * 1 * down e) (0 * up e * 1) (omega arith))
+above-zero (fin false (suc m) e) h k = (m, e, refl)
+
+pub positive-number : (a : Float) → Positive a → T (not (isNan a))
+unfolding isNan
+positive-number nan p = never (ap isNan (p .2)) refl
+positive-number (inf s) p = tt
+positive-number (fin s m e) p = tt
 
 -- what the code does with the bits of a positive finite number
 module _ (a : Float) (p : Positive a) (h : T (fits binary64 a)) where

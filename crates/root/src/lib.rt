@@ -1,7 +1,7 @@
 // The square root, correctly rounded, by whole-number arithmetic.
 ghost use mathlib.Core.Path.{_≡_};
 ghost use mathlib.Core.Logic.{_⊎_};
-ghost use Prim.Native.Nat.{_+_, _*_, _^_, _≤_, _<_};
+ghost use Prim.Native.Nat.{_+_, _*_, _/_, _%_, _^_, _≤_, _<_};
 ghost use Rattle.root.specs.Root.{root, nearestRoot};
 ghost use Rattle.root.specs.Bits.{rootBits, unitsOfBits};
 
@@ -43,6 +43,35 @@ fn root_of(q: u64, k: u64) -> u64
     (digits / 2 + 484) * 0x10_0000_0000_0000 + nearest_root(s)
 }
 
+// The bits of the root of the positive finite number with these bits, the plain way.
+fn plain(bits: u64) -> u64
+    requires { ⌜ (0 < bits) × (bits < 2047 * 2 ^ 52) ⌝ }
+    ensures { λ r. ⌜ r ≡ rootBits (unitsOfBits bits) ⌝ }
+{
+    let field = bits / 0x10_0000_0000_0000;
+    if field == 0 {
+        return root_of(bits, 0);
+    }
+    let k = field - 1;
+    root_of(bits - k * 0x10_0000_0000_0000, k)
+}
+
+// The square root of a, rounded to the nearest, the plain way. A zero, +infinity and a NaN are their own roots, and a number below zero has none.
+fn special(a: f64) -> f64
+    ensures { λ r. ⌜ r ≡ root a ⌝ }
+{
+    if a == 0.0 {
+        return a;
+    }
+    if a < 0.0 {
+        return 0.0 / 0.0;
+    }
+    if numbers::is_finite(a) {
+        return f64::from_bits(plain(f64::to_bits(a)));
+    }
+    a
+}
+
 // A root of the number from 4 to 16 that has these bits, to about an ulp; nothing is promised of it. Half the bits, taken from a constant, are those of a first
 // reciprocal root; its error is taken off twice, by a polynomial of it.
 fn guess(bits: u64) -> f64
@@ -56,7 +85,7 @@ fn guess(bits: u64) -> f64
             + e * e * (1.5637160332219844 - 0.39886973639434736 * e));
     let x = a * z;
     let w = 1.0 - x * z;
-    x + x * (w * (0.5 + 0.375 * w))
+    x + x * w * (0.5 + 0.375 * w)
 }
 
 // The whole number nearest to the square root of s * 2^52, found from one close by, or 0 where g is not seen to be close. The square of g is
@@ -84,48 +113,48 @@ fn settle(s: u64, g: u64) -> u64
     g + (m + g < n) as u64 - (n + g <= m) as u64
 }
 
-// The bits of the root of the normal number with these bits: a guess, made right by whole numbers, or the plain way where it was too far off.
+// A significand of 53 digits, or twice that where the exponent is odd. They come together: above the 52 digits that are written stands the exponent's last digit.
+fn brought(m: u64) -> u64
+    requires { ⌜ m < 2 ^ 53 ⌝ }
+    ensures { λ r. ⌜ r ≡ (m % 2 ^ 52 + 2 ^ 52) * (m / 2 ^ 52 + 1) ⌝ }
+{
+    if m < 0x10_0000_0000_0000 {
+        m + 0x10_0000_0000_0000
+    } else {
+        m * 2
+    }
+}
+
+// The bits of the root of the normal number with these bits: a guess, made right by whole numbers, or the plain way where it was too far off. Of `from` the upper
+// digits, halved, are the root's exponent.
 fn normal(bits: u64) -> u64
     requires { ⌜ (2 ^ 52 ≤ bits) × (bits < 2047 * 2 ^ 52) ⌝ }
     ensures { λ r. ⌜ r ≡ rootBits (unitsOfBits bits) ⌝ }
 {
-    let from = bits - 0x10_0000_0000_0000;
-    let q = from % 0x10_0000_0000_0000 + 0x10_0000_0000_0000;
-    let k = from / 0x10_0000_0000_0000;
-    let x = guess(from % 0x20_0000_0000_0000 + 0x4010_0000_0000_0000);
+    let from = bits + 0x3fd0_0000_0000_0000;
+    let m = from % 0x20_0000_0000_0000;
+    let x = guess(m + 0x4010_0000_0000_0000);
     if x == x {
         let g = f64::to_bits(x) % 0x20_0000_0000_0000 + 0x10_0000_0000_0000;
-        let r = settle(q * (k % 2 + 1), g);
+        let r = settle(brought(m), g);
         if r != 0 {
-            return (k / 2 + 511) * 0x10_0000_0000_0000 + r;
+            return (from - m) / 2 + r;
         }
     }
-    root_of(q, k)
+    plain(bits)
 }
 
-// The bits of the root of the positive finite number with these bits.
-fn positive(bits: u64) -> u64
-    requires { ⌜ (0 < bits) × (bits < 2047 * 2 ^ 52) ⌝ }
-    ensures { λ r. ⌜ r ≡ rootBits (unitsOfBits bits) ⌝ }
-{
-    if bits < 0x10_0000_0000_0000 {
-        return root_of(bits, 0);
-    }
-    normal(bits)
-}
-
-// The square root of a, rounded to the nearest. A zero, +infinity and a NaN are their own roots, and a number below zero has none.
+// The square root of a, rounded to the nearest. Nearly every number is normal, and is tested for that alone.
 pub fn sqrt(a: f64) -> f64
     ensures { λ r. ⌜ r ≡ root a ⌝ }
 {
-    if a == 0.0 {
-        return a;
+    if 0.0 < a {
+        if a <= 1.7976931348623157e308 {
+            let bits = f64::to_bits(a);
+            if 0x10_0000_0000_0000 <= bits {
+                return f64::from_bits(normal(bits));
+            }
+        }
     }
-    if a < 0.0 {
-        return 0.0 / 0.0;
-    }
-    if numbers::is_finite(a) {
-        return f64::from_bits(positive(f64::to_bits(a)));
-    }
-    a
+    special(a)
 }

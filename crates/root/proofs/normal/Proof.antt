@@ -6,37 +6,66 @@ use mathlib.Core.Bool.{not}
 use mathlib.Core.Logic.{⊎-elim}
 use mathlib.Core.Path.{_≡_, sym, ap, _∙_}
 use borrow.Author.Needs.{needs}
-use lib.Ieee.{ne, eq}
+use lib.Ieee.{ne}
 use Rattle.numbers.proofs.Nan.{same-number}
-use Rattle.root.specs.Root.{nearestRoot, scaled}
+use Rattle.root.specs.Root.{nearestRoot, scaled, pairs}
 use Rattle.root.specs.Bits.{rootBits}
 use Rattle.root.proofs.Scaling.{full-pairs, full-scaled, full-small}
 use Rattle.root.proofs.Units.{normal-units}
 use Rattle.root.proofs.normal.Statement.{statement}
 use Rattle.root.proofs.normal.Tie as tie
 
--- the significand and the exponent, as the code takes them
+-- the number is q * 2 ^ k units
 abbrev q-of : (c : tie.Start) → ℕ
 q-of c = (c .args .bits - 2 ^ 52) % 2 ^ 52 + 2 ^ 52
 
 abbrev k-of : (c : tie.Start) → ℕ
 k-of c = (c .args .bits - 2 ^ 52) / 2 ^ 52
 
--- q, or twice q, has at most 54 digits
-doubled : (c : tie.Start) → q-of c * (k-of c % 2 + 1) < 2 ^ 54
-doubled c = lt-of-lt-of-le (mul-lt-mul-of-pos-right {k = k-of c % 2 + 1} (omega arith) (omega arith)) (mul-le-mul-left {n = 2} (2 ^ 53) (omega arith))
+-- the digits of `from`: half the exponent, its last digit, and what is written of the significand
+from-is : (b : ℕ) → 2 ^ 52 ≤ b → b + 1021 * 2 ^ 52 ≡ ((b - 2 ^ 52) / 2 ^ 52 / 2 + 511) * 2 ^ 53 + ((b - 2 ^ 52) / 2 ^ 52 % 2 * 2 ^ 52 + (b - 2 ^ 52) % 2 ^ 52)
+from-is b h = omega arith
+
+low-is : (x h l : ℕ) → l < 2 ^ 53 → x ≡ h * 2 ^ 53 + l → x % 2 ^ 53 ≡ l
+low-is x h l s e = omega arith
+
+low-here : (b : ℕ) → 2 ^ 52 ≤ b → (b + 1021 * 2 ^ 52) % 2 ^ 53 ≡ (b - 2 ^ 52) / 2 ^ 52 % 2 * 2 ^ 52 + (b - 2 ^ 52) % 2 ^ 52
+low-here b h = low-is (b + 1021 * 2 ^ 52) ((b - 2 ^ 52) / 2 ^ 52 / 2 + 511) _ (omega arith) (from-is b h)
+
+parted : (m p r : ℕ) → r < 2 ^ 52 → m ≡ p * 2 ^ 52 + r → (m % 2 ^ 52 ≡ r) × (m / 2 ^ 52 ≡ p)
+parted m p r h e = (omega arith, omega arith)
+
+-- what the code hands on is q, or twice q
+handed : (c : tie.After-brought) → c .brought .result ≡ q-of (c .before .before .before) * (k-of (c .before .before .before) % 2 + 1)
+handed c =
+    let b = c .before .before .before .args .bits in
+    let t = parted _ ((b - 2 ^ 52) / 2 ^ 52 % 2) ((b - 2 ^ 52) % 2 ^ 52) (omega arith) (low-here b (omega arith)) in
+    c .brought .ensures ∙ ap (λ (x : ℕ). (x + 2 ^ 52) * ((b + 1021 * 2 ^ 52) % 2 ^ 53 / 2 ^ 52 + 1)) (t .0) ∙ ap (λ (x : ℕ). ((b - 2 ^ 52) % 2 ^ 52 + 2 ^ 52) * (x + 1)) (t .1)
+
+-- at most 54 digits
+handed-small : (c : tie.After-brought) → c .brought .result < 2 ^ 54
+handed-small c = rw (handed c) (lt-of-lt-of-le (mul-lt-mul-of-pos-right {k = k-of (c .before .before .before) % 2 + 1} (omega arith) (omega arith)) (mul-le-mul-left {n = 2} (2 ^ 53) (omega arith)))
 
 -- what was settled, over the number brought to size
-found : (c : tie.Then2) → c .before .settle .result ≡ nearestRoot (scaled (q-of (c .before .before .before .before) * 2 ^ k-of (c .before .before .before .before)))
+found : (c : tie.Then2) → c .before .settle .result ≡ nearestRoot (scaled (q-of (c .before .before .before .before .before) * 2 ^ k-of (c .before .before .before .before .before)))
 found c =
-    let s = c .before .before .before .before in
-    ⊎-elim (λ z. absurd (c .if2 .taken z)) (λ e. e ∙ ap nearestRoot (full-scaled (q-of s) (k-of s) (omega arith) (omega arith))) (c .before .settle .ensures)
+    let s = c .before .before .before .before .before in
+    ⊎-elim
+    (λ z. absurd (c .if2 .taken z))
+    (λ e. e ∙ ap nearestRoot (ap (λ (x : ℕ). x * 2 ^ 52) (handed (c .before .before)) ∙ full-scaled (q-of s) (k-of s) (omega arith) (omega arith)))
+    (c .before .settle .ensures)
 
-sub-from : tie.Need-sub-from
-sub-from c = search needs
+-- half of the upper digits
+halved : (x h l w : ℕ) → x ≡ h * 2 ^ 53 + l → x % 2 ^ 53 ≡ l → h ≡ w → (x - x % 2 ^ 53) / 2 ≡ w * 2 ^ 52
+halved x h l w e d f = omega arith
 
-add-q : tie.Need-add-q
-add-q c = search needs
+exponent : (c : tie.Start) → (c .args .bits + 1021 * 2 ^ 52 - (c .args .bits + 1021 * 2 ^ 52) % 2 ^ 53) / 2 ≡ (pairs (q-of c * 2 ^ k-of c) + 484) * 2 ^ 52
+exponent c =
+    let b = c .args .bits in
+    halved (b + 1021 * 2 ^ 52) _ _ (pairs (q-of c * 2 ^ k-of c) + 484) (from-is b (omega arith)) (low-here b (omega arith)) (full-pairs (q-of c) (k-of c) (omega arith) (omega arith))
+
+add-from : tie.Need-add-from
+add-from c = search needs
 
 add-guess : tie.Need-add-guess
 add-guess c = search needs
@@ -51,50 +80,43 @@ float-to-bits-g c = same-number (c .before .guess .result) (ap not (c .if1 .take
 add-g : tie.Need-add-g
 add-g c = search needs
 
-add-settle : tie.Need-add-settle
-add-settle c = search needs
-
-mul-settle : tie.Need-mul-settle
-mul-settle c = let h = doubled (c .before .before) in omega arith
+brought-requires : tie.Need-brought-requires
+brought-requires c κs = search needs
 
 settle-requires : tie.Need-settle-requires
-settle-requires c κs = let h = doubled (c .before .before) in omega arith
+settle-requires c κs = omega (arith, handed-small c)
+
+sub-result : tie.Need-sub-result
+sub-result c = search needs
 
 add-result : tie.Need-add-result
-add-result c = search needs
-
-mul-result : tie.Need-mul-result
-mul-result c = search needs
-
-add-result-2 : tie.Need-add-result-2
-add-result-2 c = let s = c .before .before .before .before in omega (arith, found c, full-small (q-of s) (k-of s) (omega arith) (omega arith))
+add-result c =
+    let s = c .before .before .before .before .before in
+    omega (arith, found c, full-small (q-of s) (k-of s) (omega arith) (omega arith))
 
 returns : tie.Need-returns
 unfolding rootBits
-returns c = let s = c .before .before .before .before in rw (found c, full-pairs (q-of s) (k-of s) (omega arith) (omega arith), normal-units (s .args .bits) (omega arith))
+returns c = let s = c .before .before .before .before .before in rw (found c, exponent s, normal-units (s .args .bits) (omega arith))
 
-root-of-requires : tie.Need-root-of-requires
-root-of-requires c κs = search needs
+plain-requires : tie.Need-plain-requires
+plain-requires c κs = search needs
 
 returns-2 : tie.Need-returns-2
-returns-2 c = c .root-of .ensures ∙ ap rootBits (sym (normal-units (c .before .before .before .args .bits) (omega arith)))
+returns-2 c = search needs
 
 pub normal-spec : {M : Type 1} → statement M
 normal-spec =
     tie.close
     (tie.spec
-    sub-from
-    add-q
+    add-from
     add-guess
     guess-requires
     float-to-bits-g
     add-g
-    add-settle
-    mul-settle
+    brought-requires
     settle-requires
+    sub-result
     add-result
-    mul-result
-    add-result-2
     returns
-    root-of-requires
+    plain-requires
     returns-2)

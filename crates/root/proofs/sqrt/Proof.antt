@@ -1,59 +1,48 @@
--- `root::sqrt` meets its contract: each return by the tests that led there.
-use mathlib.Core.Bool.{Bool, true, false, not}
+-- `root::sqrt` meets its contract: what passes its tests is a normal number, and all else goes to `special`.
+use mathlib.Core.Bool.{Bool, not}
 use mathlib.Core.Path.{_≡_, sym, subst, ap, _∙_}
+use native.Mathlib.Omega.{arith}
 use borrow.Author.Needs.{needs}
 use lib.Dec.{T}
-use lib.Ieee.{Float, binary64, toBits, ofBits, nanBits}
+use lib.Ieee.{Float, binary64, ofBits, nanBits}
 use denote.Floats.{passes}
-use Rattle.numbers.specs.Words.{finite}
-use Rattle.root.proofs.Cases.{root-zero, root-below, root-not-finite, root-positive, root-number, number-is, Positive, is-positive, bits-range}
+use Rattle.root.proofs.Cases.{Positive, above-zero, positive-number, root-positive, root-number, bits-range}
 use Rattle.root.proofs.sqrt.Statement.{statement}
 use Rattle.root.proofs.sqrt.Tie as tie
 
-returns : tie.Need-returns
-returns c = root-zero (c .before .args .a) (c .if1 .taken)
+-- where both tests of the float held
+positive-here : (c : tie.Then2) → Positive (c .before .before .args .a)
+positive-here c = above-zero (c .before .before .args .a) (c .before .if1 .taken) (c .if2 .taken)
 
-returns-2 : tie.Need-returns-2
-returns-2 c = root-below (c .before .before .args .a) (c .before .if1 .left) (c .if2 .taken)
+float-to-bits-bits : tie.Need-float-to-bits-bits
+float-to-bits-bits c = positive-number (c .before .before .args .a) (positive-here c)
 
-is-finite-requires : tie.Need-is-finite-requires
-is-finite-requires c κs = search needs
-
--- in the branch of the finite numbers
-is-so : (c : tie.Then3) → finite (c .before .before .before .before .args .a) ≡ true
-is-so c = sym (c .before .is-finite .ensures) ∙ c .if3 .taken
-
-positive-here : (c : tie.Then3) → Positive (c .before .before .before .before .args .a)
-positive-here c = is-positive (c .before .before .before .before .args .a) (c .before .before .before .if1 .left) (c .before .before .if2 .left) (is-so c)
-
-float-to-bits-positive : tie.Need-float-to-bits-positive
-float-to-bits-positive c = number-is (c .before .before .before .before .args .a) (is-so c)
-
-positive-requires : tie.Need-positive-requires
-positive-requires c κs = let s = c .before .before .before .before in bits-range (s .args .a) (positive-here c) (passes _ (s .good .0 .1))
+normal-requires : tie.Need-normal-requires
+normal-requires c κs = let s = c .before .before .before in omega (arith, bits-range (s .args .a) (positive-here (c .before)) (passes _ (s .good .0 .1)))
 
 float-from-bits-result : tie.Need-float-from-bits-result
 float-from-bits-result c =
-    let s = c .before .before .before .before .before in
-    subst (λ (b : Bool). T (not b)) (sym (ap (nanBits binary64) (c .positive .ensures) ∙ root-number (s .args .a) (positive-here (c .before)) (passes _ (s .good .0 .1)))) tt
+    let s = c .before .before .before .before in
+    subst (λ (b : Bool). T (not b)) (sym (ap (nanBits binary64) (c .normal .ensures) ∙ root-number (s .args .a) (positive-here (c .before .before)) (passes _ (s .good .0 .1)))) tt
 
-returns-3 : tie.Need-returns-3
-returns-3 c =
-    let s = c .before .before .before .before .before in
-    ap (ofBits binary64) (c .positive .ensures) ∙ root-positive (s .args .a) (positive-here (c .before)) (passes _ (s .good .0 .1))
+returns : tie.Need-returns
+returns c =
+    let s = c .before .before .before .before in
+    ap (ofBits binary64) (c .normal .ensures) ∙ root-positive (s .args .a) (positive-here (c .before .before)) (passes _ (s .good .0 .1))
 
-returns-4 : tie.Need-returns-4
-returns-4 c = root-not-finite (c .before .before .before .before .args .a) (c .before .before .if2 .left) (sym (c .before .is-finite .ensures) ∙ c .if3 .left)
+special-requires : tie.Need-special-requires
+special-requires c κs = search needs
+
+returns-2 : tie.Need-returns-2
+returns-2 c = search needs
 
 pub sqrt-spec : {M : Type 1} → statement M
 sqrt-spec =
     tie.close
     (tie.spec
-    returns
-    returns-2
-    is-finite-requires
-    float-to-bits-positive
-    positive-requires
+    float-to-bits-bits
+    normal-requires
     float-from-bits-result
-    returns-3
-    returns-4)
+    returns
+    special-requires
+    returns-2)
