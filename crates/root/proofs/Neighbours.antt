@@ -51,45 +51,39 @@ settled g m n N p h =
     back
     (λ e low high. by-tests r m n N e h low high (ltb (m + (r + 2)) n) (leb (n + (r + 2)) m) refl refl)
 
--- the square of a * 2 ^ 25 + b, in whole units of 2 ^ 50 and what is left
-square : (g a b p q : ℕ) → a * 2 ^ 25 + b ≡ g → p * 2 ^ 24 + q ≡ a * b → g * g ≡ (a * a + p) * 2 ^ 50 + (q * 2 ^ 26 + b * b)
+-- the square of a * 2 ^ 22 + b, in whole units of 2 ^ 44 and what is left
+square : (g a b p q : ℕ) → a * 2 ^ 22 + b ≡ g → p * 2 ^ 21 + q ≡ a * b → g * g ≡ (a * a + p) * 2 ^ 44 + (q * 2 ^ 23 + b * b)
 square g a b p q e f = rw (← e) (omega arith)
 
 module _ (s g : ℕ) (s-small : s < 2 ^ 54) (g-low : 2 ^ 52 ≤ g) (g-high : g < 3 * 2 ^ 52) where
   abbrev a : ℕ
-  a = g / 2 ^ 25
+  a = g / 2 ^ 22
 
   abbrev b : ℕ
-  b = g % 2 ^ 25
+  b = g % 2 ^ 22
 
   abbrev whole : ℕ
-  whole = a * a + a * b / 2 ^ 24
-
-  abbrev rest : ℕ
-  rest = a * b % 2 ^ 24 * 2 ^ 26 + b * b
-
-  abbrev span : ℕ
-  span = a * 3 / 2 ^ 25
+  whole = a * a + a * b / 2 ^ 21
 
   abbrev n : ℕ
-  n = (s * 4 + span - 2 - whole) * 2 ^ 50
+  n = (s * 256 + 766 - whole) * 2 ^ 44
 
   abbrev m : ℕ
-  m = (span - 2) * 2 ^ 50 + rest
+  m = a * b % 2 ^ 21 * 2 ^ 23 + b * b + 766 * 2 ^ 44
 
   pub steps : (boolByte (ltb (m + g) n) ≤ 1) × (boolByte (leb (n + g) m) ≤ 1)
   steps = (bit-le (ltb (m + g) n), bit-le (leb (n + g) m))
 
-  pub squares : (a * a ≤ 3 * 2 ^ 27 * (3 * 2 ^ 27)) × (a * b ≤ 3 * 2 ^ 27 * 2 ^ 25) × (b * b ≤ (2 ^ 25 - 1) * (2 ^ 25 - 1))
+  pub squares : (a * a ≤ 3 * 2 ^ 30 * (3 * 2 ^ 30)) × (a * b ≤ 3 * 2 ^ 30 * 2 ^ 22) × (b * b ≤ (2 ^ 22 - 1) * (2 ^ 22 - 1))
   squares =
-      let al : a ≤ 3 * 2 ^ 27 = omega arith in
-      let bl : b ≤ 2 ^ 25 = omega arith in
-      let bb : b ≤ 2 ^ 25 - 1 = omega arith in
+      let al : a ≤ 3 * 2 ^ 30 = omega arith in
+      let bl : b ≤ 2 ^ 22 = omega arith in
+      let bb : b ≤ 2 ^ 22 - 1 = omega arith in
       (mul-le-mul al al, mul-le-mul al bl, mul-le-mul bb bb)
 
   -- what the code answers in the span that it looks at
-  pub answer : whole ≤ s * 4 + span - 2 → s * 4 + span - 2 - whole ≤ span * 2 - 2 → g + boolByte (ltb (m + g) n) - boolByte (leb (n + g) m) ≡ nearestRoot (s * 2 ^ 52)
+  pub answer : whole ≤ s * 256 + 766 → s * 256 + 766 - whole ≤ 1534 → g + boolByte (ltb (m + g) n) - boolByte (leb (n + g) m) ≡ nearestRoot (s * 2 ^ 52)
   answer l h =
       let t = squares in
-      let e = square g a b (a * b / 2 ^ 24) (a * b % 2 ^ 24) (omega arith) (omega arith) in
+      let e = square g a b (a * b / 2 ^ 21) (a * b % 2 ^ 21) (omega arith) (omega arith) in
       settled g m n (s * 2 ^ 52) (omega arith) (omega arith) (omega arith) (omega arith) (omega arith)

@@ -72,44 +72,44 @@ fn special(a: f64) -> f64
     a
 }
 
-// A root of the number from 4 to 16 that has these bits, to about an ulp; nothing is promised of it. Half the bits, taken from a constant, are those of a first
-// reciprocal root; its error is taken off twice, by a polynomial of it.
-fn guess(bits: u64) -> f64
-    requires { ⌜ bits < 2047 * 2 ^ 52 ⌝ }
+// Twice the root of the number from 1 to 4 whose bits are m and those of 1, within an ulp or so; nothing is promised of it. Half the bits, taken from a constant, are
+// those of its reciprocal root, near enough; a polynomial takes away what it is off, to 31 binary digits, and a step of Heron's doubles those.
+fn guess(m: u64) -> f64
+    requires { ⌜ m < 2 ^ 53 ⌝ }
 {
+    let bits = m + 0x3ff0_0000_0000_0000;
     let a = f64::from_bits(bits);
     let y = f64::from_bits(0x5fe6_0000_0000_0000 - bits / 2);
-    let e = a * y * y;
-    let z = y
-        * (2.2662252665892915 - 2.431073597065731 * e
-            + e * e * (1.5637160332219844 - 0.39886973639434736 * e));
-    let x = a * z;
-    let w = 1.0 - x * z;
-    x + x * w * (0.5 + 0.375 * w)
+    let z = a * y;
+    let e = z * y;
+    let ee = e * e;
+    let low = 2.8044141519973484 - 5.0148694218507845 * e
+        + ee * (6.454128266295795 - 4.942359598279734 * e);
+    let x = z * (low + ee * ee * (2.0597421617082423 - 0.36105556435542824 * e));
+    x + a / x
 }
 
 // The whole number nearest to the square root of s * 2^52, found from one close by, or 0 where g is not seen to be close. The square of g is
-// whole * 2^50 + rest, exactly, and n - m is how far s * 2^52 lies above it; in the span that is looked at, g or one of its neighbours is nearest.
+// whole * 2^44 + rest, exactly, and n - m is how far s * 2^52 lies above it. Up to 3 * 2^52 either way, g or one of its neighbours is nearest.
 fn settle(s: u64, g: u64) -> u64
     requires { ⌜ (s < 2 ^ 54) × (2 ^ 52 ≤ g) × (g < 3 * 2 ^ 52) ⌝ }
     ensures { λ r. ⌜ (r ≡ 0) ⊎ (r ≡ nearestRoot (s * 2 ^ 52)) ⌝ }
 {
-    let a = g / 0x200_0000;
-    let b = g % 0x200_0000;
+    let a = g / 0x40_0000;
+    let b = g % 0x40_0000;
     let ab = a * b;
-    let whole = a * a + ab / 0x100_0000;
-    let rest = ab % 0x100_0000 * 0x400_0000 + b * b;
-    let span = a * 3 / 0x200_0000;
-    let top = s * 4 + span - 2;
+    let whole = a * a + ab / 0x20_0000;
+    let rest = ab % 0x20_0000 * 0x80_0000 + b * b;
+    let top = s * 256 + 766;
     if top < whole {
         return 0;
     }
     let above = top - whole;
-    if span * 2 - 2 < above {
+    if 1534 < above {
         return 0;
     }
-    let n = above * 0x4_0000_0000_0000;
-    let m = (span - 2) * 0x4_0000_0000_0000 + rest;
+    let n = above * 0x1000_0000_0000;
+    let m = rest + 0x2f_e000_0000_0000;
     g + (m + g < n) as u64 - (n + g <= m) as u64
 }
 
@@ -125,23 +125,24 @@ fn brought(m: u64) -> u64
     }
 }
 
-// The bits of the root of the normal number with these bits: a guess, made right by whole numbers, or the plain way where it was too far off. Of `from` the upper
-// digits, halved, are the root's exponent.
+// The bits of the root of the normal number with these bits: a guess, made right by whole numbers, or 0 where it was too far off. Of `from` the upper digits,
+// halved, are the root's exponent.
 fn normal(bits: u64) -> u64
     requires { ⌜ (2 ^ 52 ≤ bits) × (bits < 2047 * 2 ^ 52) ⌝ }
-    ensures { λ r. ⌜ r ≡ rootBits (unitsOfBits bits) ⌝ }
+    ensures { λ r. ⌜ (r ≡ 0) ⊎ (r ≡ rootBits (unitsOfBits bits)) ⌝ }
 {
     let from = bits + 0x3fd0_0000_0000_0000;
     let m = from % 0x20_0000_0000_0000;
-    let x = guess(m + 0x4010_0000_0000_0000);
-    if x == x {
-        let g = f64::to_bits(x) % 0x20_0000_0000_0000 + 0x10_0000_0000_0000;
-        let r = settle(brought(m), g);
-        if r != 0 {
-            return (from - m) / 2 + r;
-        }
+    let x = guess(m);
+    if x != x {
+        return 0;
     }
-    plain(bits)
+    let g = f64::to_bits(x) % 0x20_0000_0000_0000 + 0x10_0000_0000_0000;
+    let r = settle(brought(m), g);
+    if r == 0 {
+        return 0;
+    }
+    (from - m) / 2 + r
 }
 
 // The square root of a, rounded to the nearest. Nearly every number is normal, and is tested for that alone.
@@ -152,7 +153,10 @@ pub fn sqrt(a: f64) -> f64
         if a <= 1.7976931348623157e308 {
             let bits = f64::to_bits(a);
             if 0x10_0000_0000_0000 <= bits {
-                return f64::from_bits(normal(bits));
+                let r = normal(bits);
+                if r != 0 {
+                    return f64::from_bits(r);
+                }
             }
         }
     }

@@ -8,6 +8,9 @@ use Rattle.numbers.proofs.Nan.{pattern-number}
 use Rattle.root.proofs.guess.Statement.{statement}
 use Rattle.root.proofs.guess.Tie as tie
 
+add-bits : tie.Need-add-bits
+add-bits c = search needs
+
 float-from-bits-a : tie.Need-float-from-bits-a
 float-from-bits-a c = subst (λ (b : Bool). T (not b)) (sym (pattern-number _ (omega arith))) tt
 
@@ -21,4 +24,4 @@ returns : tie.Need-returns
 returns c = search needs
 
 pub guess-spec : {M : Type 1} → statement M
-guess-spec = tie.close (tie.spec float-from-bits-a sub-y float-from-bits-y returns)
+guess-spec = tie.close (tie.spec add-bits float-from-bits-a sub-y float-from-bits-y returns)

@@ -2,11 +2,9 @@
 use Prim.Native.Nat.{ℕ, _+_, _-_, _*_, _/_, _%_, _^_, _<_, _≤_}
 use native.Mathlib.Omega.{arith}
 use native.Mathlib.Nat.{lt-of-lt-of-le, mul-lt-mul-of-pos-right, mul-le-mul-left}
-use mathlib.Core.Bool.{not}
-use mathlib.Core.Logic.{⊎-elim}
-use mathlib.Core.Path.{_≡_, sym, ap, _∙_}
+use mathlib.Core.Logic.{inl, inr, ⊎-elim}
+use mathlib.Core.Path.{_≡_, refl, ap, _∙_}
 use borrow.Author.Needs.{needs}
-use lib.Ieee.{ne}
 use Rattle.numbers.proofs.Nan.{same-number}
 use Rattle.root.specs.Root.{nearestRoot, scaled, pairs}
 use Rattle.root.specs.Bits.{rootBits}
@@ -47,11 +45,11 @@ handed-small : (c : tie.After-brought) → c .brought .result < 2 ^ 54
 handed-small c = rw (handed c) (lt-of-lt-of-le (mul-lt-mul-of-pos-right {k = k-of (c .before .before .before) % 2 + 1} (omega arith) (omega arith)) (mul-le-mul-left {n = 2} (2 ^ 53) (omega arith)))
 
 -- what was settled, over the number brought to size
-found : (c : tie.Then2) → c .before .settle .result ≡ nearestRoot (scaled (q-of (c .before .before .before .before .before) * 2 ^ k-of (c .before .before .before .before .before)))
+found : (c : tie.Else2) → c .before .settle .result ≡ nearestRoot (scaled (q-of (c .before .before .before .before .before) * 2 ^ k-of (c .before .before .before .before .before)))
 found c =
     let s = c .before .before .before .before .before in
     ⊎-elim
-    (λ z. absurd (c .if2 .taken z))
+    (λ z. absurd (c .if2 .left z))
     (λ e. e ∙ ap nearestRoot (ap (λ (x : ℕ). x * 2 ^ 52) (handed (c .before .before)) ∙ full-scaled (q-of s) (k-of s) (omega arith) (omega arith)))
     (c .before .settle .ensures)
 
@@ -67,15 +65,14 @@ exponent c =
 add-from : tie.Need-add-from
 add-from c = search needs
 
-add-guess : tie.Need-add-guess
-add-guess c = search needs
-
 guess-requires : tie.Need-guess-requires
 guess-requires c κs = search needs
 
+returns : tie.Need-returns
+returns c = inl refl
+
 float-to-bits-g : tie.Need-float-to-bits-g
-unfolding ne
-float-to-bits-g c = same-number (c .before .guess .result) (ap not (c .if1 .taken))
+float-to-bits-g c = same-number (c .before .guess .result) (c .if1 .left)
 
 add-g : tie.Need-add-g
 add-g c = search needs
@@ -86,37 +83,31 @@ brought-requires c κs = search needs
 settle-requires : tie.Need-settle-requires
 settle-requires c κs = omega (arith, handed-small c)
 
+returns-2 : tie.Need-returns-2
+returns-2 c = inl refl
+
 sub-result : tie.Need-sub-result
 sub-result c = search needs
 
 add-result : tie.Need-add-result
-add-result c =
-    let s = c .before .before .before .before .before in
-    omega (arith, found c, full-small (q-of s) (k-of s) (omega arith) (omega arith))
+add-result c = let s = c .before .before .before .before .before in omega (arith, found c, full-small (q-of s) (k-of s) (omega arith) (omega arith))
 
-returns : tie.Need-returns
+returns-3 : tie.Need-returns-3
 unfolding rootBits
-returns c = let s = c .before .before .before .before .before in rw (found c, exponent s, normal-units (s .args .bits) (omega arith))
-
-plain-requires : tie.Need-plain-requires
-plain-requires c κs = search needs
-
-returns-2 : tie.Need-returns-2
-returns-2 c = search needs
+returns-3 c = let s = c .before .before .before .before .before in inr (rw (found c, exponent s, normal-units (s .args .bits) (omega arith)))
 
 pub normal-spec : {M : Type 1} → statement M
 normal-spec =
     tie.close
     (tie.spec
     add-from
-    add-guess
     guess-requires
+    returns
     float-to-bits-g
     add-g
     brought-requires
     settle-requires
+    returns-2
     sub-result
     add-result
-    returns
-    plain-requires
-    returns-2)
+    returns-3)

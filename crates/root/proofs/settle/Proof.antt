@@ -7,11 +7,11 @@ use borrow.Author.Needs.{needs}
 use Rattle.root.proofs.Neighbours.{steps, squares, answer}
 use Rattle.root.proofs.settle.Statement.{statement}
 use Rattle.root.proofs.settle.Tie as tie
-use Rattle.root.proofs.settle.Reads as reads
-use Rattle.root.proofs.settle.Lts as lts
 
-sizes : (c : tie.Start) → let a = c .args .g / 2 ^ 25 in let b = c .args .g % 2 ^ 25 in
-    (a * a ≤ 3 * 2 ^ 27 * (3 * 2 ^ 27)) × (a * b ≤ 3 * 2 ^ 27 * 2 ^ 25) × (b * b ≤ (2 ^ 25 - 1) * (2 ^ 25 - 1))
+sizes : (c : tie.Start) →
+    let a = c .args .g / 2 ^ 22 in
+    let b = c .args .g % 2 ^ 22 in
+    (a * a ≤ 3 * 2 ^ 30 * (3 * 2 ^ 30)) × (a * b ≤ 3 * 2 ^ 30 * 2 ^ 22) × (b * b ≤ (2 ^ 22 - 1) * (2 ^ 22 - 1))
 sizes c = squares (c .args .s) (c .args .g) (c .pre .0) (c .pre .1) (c .pre .2)
 
 mul-ab : tie.Need-mul-ab
@@ -32,38 +32,20 @@ mul-rest-2 c = let t = sizes c in omega arith
 add-rest : tie.Need-add-rest
 add-rest c = let t = sizes c in omega arith
 
-mul-span : tie.Need-mul-span
-mul-span c = search needs
-
 mul-top : tie.Need-mul-top
 mul-top c = search needs
 
 add-top : tie.Need-add-top
 add-top c = search needs
 
-sub-top : tie.Need-sub-top
-sub-top c = search needs
-
 returns : tie.Need-returns
 returns c = inl refl
-
-mul-if2 : tie.Need-mul-if2
-mul-if2 c = search needs
-
-sub-if2 : tie.Need-sub-if2
-sub-if2 c = search needs
 
 returns-2 : tie.Need-returns-2
 returns-2 c = inl refl
 
 mul-n : tie.Need-mul-n
 mul-n c = search needs
-
-sub-m : tie.Need-sub-m
-sub-m c = search needs
-
-mul-m : tie.Need-mul-m
-mul-m c = search needs
 
 add-m : tie.Need-add-m
 add-m c = let t = sizes (c .before .before) in omega arith
@@ -75,7 +57,7 @@ cast-result : tie.Need-cast-result
 cast-result c = search needs
 
 add-result-2 : tie.Need-add-result-2
-add-result-2 c = let t = steps (c .before .before .args .s) (c .before .before .args .g) (c .before .before .pre .0) (c .before .before .pre .1) (c .before .before .pre .2) in omega arith
+add-result-2 c = let s = c .before .before in let t = steps (s .args .s) (s .args .g) (s .pre .0) (s .pre .1) (s .pre .2) in omega arith
 
 add-result-3 : tie.Need-add-result-3
 add-result-3 c = search needs
@@ -84,10 +66,10 @@ cast-result-2 : tie.Need-cast-result-2
 cast-result-2 c = search needs
 
 sub-result : tie.Need-sub-result
-sub-result c = let t = steps (c .before .before .args .s) (c .before .before .args .g) (c .before .before .pre .0) (c .before .before .pre .1) (c .before .before .pre .2) in omega arith
+sub-result c = let s = c .before .before in let t = steps (s .args .s) (s .args .g) (s .pre .0) (s .pre .1) (s .pre .2) in omega arith
 
 returns-3 : tie.Need-returns-3
-returns-3 c = let a = c .before .before in inr (answer (a .args .s) (a .args .g) (a .pre .0) (a .pre .1) (a .pre .2) (c .before .if1 .left) (c .if2 .left))
+returns-3 c = let s = c .before .before in inr (answer (s .args .s) (s .args .g) (s .pre .0) (s .pre .1) (s .pre .2) (c .before .if1 .left) (c .if2 .left))
 
 pub settle-spec : {M : Type 1} → statement M
 settle-spec =
@@ -99,17 +81,11 @@ settle-spec =
     mul-rest
     mul-rest-2
     add-rest
-    mul-span
     mul-top
     add-top
-    sub-top
     returns
-    mul-if2
-    sub-if2
     returns-2
     mul-n
-    sub-m
-    mul-m
     add-m
     add-result
     cast-result
