@@ -90,7 +90,8 @@ fn guess(m: u64) -> f64
 }
 
 // The whole number nearest to the square root of s * 2^52, found from one close by, or 0 where g is not seen to be close. The square of g is
-// whole * 2^44 + rest, exactly, and n - m is how far s * 2^52 lies above it. Up to 3 * 2^52 either way, g or one of its neighbours is nearest.
+// whole * 2^44 + rest, exactly, and n - m is how far s * 2^52 lies above it. Up to 3 * 2^52 either way, 768 units of 2^44, g or one of its neighbours is nearest;
+// rest is below two units, so 766 are looked at below and 768 above.
 fn settle(s: u64, g: u64) -> u64
     requires { ⌜ (s < 2 ^ 54) × (2 ^ 52 ≤ g) × (g < 3 * 2 ^ 52) ⌝ }
     ensures { λ r. ⌜ (r ≡ 0) ⊎ (r ≡ nearestRoot (s * 2 ^ 52)) ⌝ }
