@@ -177,6 +177,30 @@ uint8_t havgrunel_primitive(
     bool extrapolate, double x,
     double *answer, size_t answer_count);
 
+/*
+ * The price at each of xs, or the total up to each, into the first xs_count entries of `answers`: each is what the call above tells of it. The knots
+ * are checked once for all, and xs that rise cost a step each. All or nothing: where any x is refused, nothing is written.
+ *
+ * Refused in the order 4, 5, 7, 10, 11 (also for an `answers` that is shorter than xs); then by 12, 13, 15 of the first x that is refused.
+ */
+uint8_t havgrunel_values(
+    const double *knots, size_t knots_count,
+    const uint16_t *tags, size_t tags_count,
+    const double *slots, size_t slots_count,
+    double tail_value, double tail_total, double tail_from,
+    bool extrapolate,
+    const double *xs, size_t xs_count,
+    double *answers, size_t answers_count);
+
+uint8_t havgrunel_primitives(
+    const double *knots, size_t knots_count,
+    const uint16_t *tags, size_t tags_count,
+    const double *slots, size_t slots_count,
+    double tail_value, double tail_total, double tail_from,
+    bool extrapolate,
+    const double *xs, size_t xs_count,
+    double *answers, size_t answers_count);
+
 /* The method has no derivative: 14 comes back, whatever x is. */
 uint8_t havgrunel_derivative(double x);
 

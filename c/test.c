@@ -108,6 +108,14 @@ static bool answers(const struct table *t, const struct curve *c, bool extrapola
         && same(p, primitive);
 }
 
+typedef uint8_t queries(const double *, size_t, const uint16_t *, size_t, const double *, size_t, double, double, double, bool, const double *, size_t,
+    double *, size_t);
+
+static uint8_t ask_many(queries *q, const struct table *t, const struct curve *c, bool extrapolate, const double *xs, size_t n, double *to, size_t room)
+{
+    return q(t->knots, t->knots_count, c->tags, TAGS, c->slots, SLOTS, c->tail[0], c->tail[1], c->tail[2], extrapolate, xs, n, to, room);
+}
+
 /* Both queries are refused with this number, and write nothing. */
 static bool refuses(const struct table *t, const struct curve *c, bool extrapolate, double x, uint8_t refusal)
 {
@@ -158,6 +166,30 @@ static void three_points(void)
     CHECK(ask(havgrunel_value, &three, &c, true, -1.0, &v) == 0 && same(v, 2.0));
     CHECK(answers(&three, &c, true, 3.0, 3.5, 7.5));
     CHECK(refuses(&three, &c, true, NAN, HAVGRUNEL_QUERY_NOT_A_NUMBER));
+
+    /* many at once are told what each is told, in any order; one entry more stays as it was */
+    const double xs[] = {1.5, 0.5, 1.0, 0.0, 2.0, 0.25};
+    double many[7] = {-1.0, -1.0, -1.0, -1.0, -1.0, -1.0, -1.0};
+    CHECK(ask_many(havgrunel_values, &three, &c, false, xs, 6, many, 7) == 0);
+    CHECK(same(many[0], 3.125) && same(many[1], 0.875) && same(many[2], 2.0) && same(many[4], 3.5) && same(many[6], -1.0));
+    for (size_t i = 0; i < 6; i++) {
+        CHECK(ask(havgrunel_value, &three, &c, false, xs[i], &v) == 0 && same(many[i], v));
+    }
+    CHECK(ask_many(havgrunel_primitives, &three, &c, false, xs, 6, many, 6) == 0);
+    CHECK(same(many[2], 1.0) && same(many[4], 4.0));
+    for (size_t i = 0; i < 6; i++) {
+        CHECK(ask(havgrunel_primitive, &three, &c, false, xs[i], &v) == 0 && same(many[i], v));
+    }
+    CHECK(ask_many(havgrunel_values, &three, &c, false, NULL, 0, NULL, 0) == 0);
+
+    /* the first that is refused refuses all, and nothing is written */
+    const double bad[] = {0.5, 2.5, NAN, 1.0};
+    double kept[4] = {-1.0, -1.0, -1.0, -1.0};
+    CHECK(ask_many(havgrunel_values, &three, &c, false, bad, 4, kept, 4) == HAVGRUNEL_QUERY_OUTSIDE);
+    CHECK(ask_many(havgrunel_primitives, &three, &c, true, bad, 4, kept, 4) == HAVGRUNEL_QUERY_NOT_A_NUMBER);
+    CHECK(ask_many(havgrunel_values, &three, &c, true, bad, 4, kept, 3) == HAVGRUNEL_BUFFER_TOO_SHORT);
+    CHECK(same(kept[0], -1.0) && same(kept[1], -1.0) && same(kept[2], -1.0) && same(kept[3], -1.0));
+
     CHECK(havgrunel_derivative(1.0) == HAVGRUNEL_DERIVATIVE_ASKED);
     CHECK(havgrunel_derivative(NAN) == HAVGRUNEL_DERIVATIVE_ASKED);
 

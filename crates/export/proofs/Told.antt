@@ -2,9 +2,10 @@
 use Prim.Native.Nat.{ℕ}
 use mathlib.Core.Bool.{Bool, true, false}
 use mathlib.Core.List.{List}
-use mathlib.Core.Path.{_≡_, refl, sym, _∙_}
+use mathlib.Core.Path.{_≡_, refl, sym, ap, _∙_}
 use lib.Ieee.{Float}
-use lib.ListN.{set}
+use lib.ListN.{length, set}
+use Rattle.section.specs.declared.section.Section.{Section}
 use Rattle.record.specs.Refusal.{number}
 use Rattle.record.specs.declared.refusal.Refusal.{Refusal}
 use Rattle.record.specs.declared.refusal.Refusal.the-variants.{BufferTooShort}
@@ -18,6 +19,8 @@ use Rattle.curve.specs.declared.curve.Built.{Built}
 use Rattle.curve.specs.declared.curve.Built.the-variants as built
 use Rattle.query.specs.declared.single.Asked.{Asked}
 use Rattle.query.specs.declared.single.Asked.the-variants as asked
+use Rattle.shape.specs.Making.{left}
+use Rattle.queries.specs.Many.{manyVerdict, answersAfter}
 use Rattle.export.specs.Asking as asking
 use Rattle.export.specs.Building as building
 
@@ -60,3 +63,10 @@ table-short (verdict.Refused r) c = refl
 pub table-roomy : (b : Built) → toldCurve b .refusal ≡ toldCurve (building.roomed false b) .refusal
 table-roomy (built.Curve c) = refl
 table-roomy (built.Refused r) = refl
+
+-- many queries: the library's verdict and answers, of the curve that crossed
+pub many-told : (f : Section → Float → Float) (x : List Float) (j k : Curve) (tags : List ℕ) (slots qs old : List Float) (v : Verdict) (new : List Float) (n : ℕ) → j ≡ k →
+    (v ≡ manyVerdict x j tags slots qs (length old)) × (new ≡ left (manyVerdict x j tags slots qs (length old)) (answersAfter f x j tags slots qs old) old) →
+    n ≡ asking.verdictNumber v →
+    (n ≡ asking.verdictNumber (manyVerdict x k tags slots qs (length old))) × (new ≡ left (manyVerdict x k tags slots qs (length old)) (answersAfter f x k tags slots qs old) old)
+many-told f x j k tags slots qs old v new n e p g = (g ∙ ap asking.verdictNumber (rw e at (p .0)), rw e at (p .1))

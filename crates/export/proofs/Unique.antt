@@ -11,6 +11,12 @@ use Rattle.export.proofs.square_root.havgrunel_sqrt.Reads as sqrt-reads
 use Rattle.export.proofs.building.havgrunel_build as build
 use Rattle.export.proofs.building.havgrunel_build.Kinds as build-kinds
 use Rattle.export.proofs.building.havgrunel_build.Reads as build-reads
+use Rattle.export.proofs.many.havgrunel_values as values
+use Rattle.export.proofs.many.havgrunel_values.Kinds as values-kinds
+use Rattle.export.proofs.many.havgrunel_values.Reads as values-reads
+use Rattle.export.proofs.many.havgrunel_primitives as primitives
+use Rattle.export.proofs.many.havgrunel_primitives.Kinds as primitives-kinds
+use Rattle.export.proofs.many.havgrunel_primitives.Reads as primitives-reads
 use Rattle.export.proofs.asking.havgrunel_value as value
 use Rattle.export.proofs.asking.havgrunel_value.Kinds as value-kinds
 use Rattle.export.proofs.asking.havgrunel_value.Reads as value-reads
@@ -209,3 +215,13 @@ build-in-sheets-unique κs a r₁ r₂ s t p q = (
   p .1 .1 .1 .1 .0 ∙ sym (q .1 .1 .1 .1 .0),
   p .1 .1 .1 .1 .1 ∙ sym (q .1 .1 .1 .1 .1),
 )
+
+pub values-unique : (κs : Lifetimes.Lfts 5) (a : World.ArgsD values.signature κs) (r₁ r₂ : World.ResD values.signature κs)
+    (s t : Clauses.AtExit (K.endedOf 5 values-kinds.ps values-kinds.r) κs) → values-reads.Post κs a r₁ s → values-reads.Post κs a r₂ t →
+    (r₁ ≡ r₂) × (now (s .1 .1 .1 .1 .1 .1 .1 .1 .0) ≡ now (t .1 .1 .1 .1 .1 .1 .1 .1 .0))
+values-unique κs a r₁ r₂ s t p q = (p .0 ∙ sym (q .0), p .1 ∙ sym (q .1))
+
+pub primitives-unique : (κs : Lifetimes.Lfts 5) (a : World.ArgsD primitives.signature κs) (r₁ r₂ : World.ResD primitives.signature κs)
+    (s t : Clauses.AtExit (K.endedOf 5 primitives-kinds.ps primitives-kinds.r) κs) → primitives-reads.Post κs a r₁ s → primitives-reads.Post κs a r₂ t →
+    (r₁ ≡ r₂) × (now (s .1 .1 .1 .1 .1 .1 .1 .1 .0) ≡ now (t .1 .1 .1 .1 .1 .1 .1 .1 .0))
+primitives-unique κs a r₁ r₂ s t p q = (p .0 ∙ sym (q .0), p .1 ∙ sym (q .1))

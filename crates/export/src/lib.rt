@@ -5,6 +5,7 @@ pub mod building;
 pub mod drawing;
 pub mod growing;
 pub mod kinds;
+pub mod many;
 pub mod records;
 pub mod settings;
 pub mod square_root;

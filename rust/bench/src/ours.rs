@@ -98,20 +98,13 @@ impl<'a> Built<'a> {
         lent::primitive(self.knots, &self.curve, tags, slots, x)
     }
 
-    // The two functions below are the one place where many queries are asked. They are single queries in a loop for as long as the
-    // library has no entry that takes a slice of them.
-
     pub fn values(&self, queries: &[f64], answers: &mut [f64]) -> Result<(), Refusal> {
-        for (&x, answer) in queries.iter().zip(answers) {
-            *answer = self.value(x)?;
-        }
-        Ok(())
+        let Room { tags, slots, .. } = &self.room;
+        lent::values(self.knots, &self.curve, tags, slots, queries, answers)
     }
 
     pub fn primitives(&self, queries: &[f64], answers: &mut [f64]) -> Result<(), Refusal> {
-        for (&x, answer) in queries.iter().zip(answers) {
-            *answer = self.primitive(x)?;
-        }
-        Ok(())
+        let Room { tags, slots, .. } = &self.room;
+        lent::primitives(self.knots, &self.curve, tags, slots, queries, answers)
     }
 }

@@ -159,6 +159,40 @@ mod archive {
             answer_count: usize,
         ) -> u8;
 
+        pub fn havgrunel_values(
+            knots: *const f64,
+            knots_count: usize,
+            tags: *const u16,
+            tags_count: usize,
+            slots: *const f64,
+            slots_count: usize,
+            tail_value: f64,
+            tail_total: f64,
+            tail_from: f64,
+            extrapolate: bool,
+            xs: *const f64,
+            xs_count: usize,
+            answers: *mut f64,
+            answers_count: usize,
+        ) -> u8;
+
+        pub fn havgrunel_primitives(
+            knots: *const f64,
+            knots_count: usize,
+            tags: *const u16,
+            tags_count: usize,
+            slots: *const f64,
+            slots_count: usize,
+            tail_value: f64,
+            tail_total: f64,
+            tail_from: f64,
+            extrapolate: bool,
+            xs: *const f64,
+            xs_count: usize,
+            answers: *mut f64,
+            answers_count: usize,
+        ) -> u8;
+
         pub fn havgrunel_record(
             points: usize,
             slots: *const f64,
@@ -385,6 +419,44 @@ macro_rules! queries {
 queries! {
     value: havgrunel_value;
     primitive: havgrunel_primitive;
+}
+
+macro_rules! many_queries {
+    ($($name:ident: $exported:ident;)*) => {
+        $(pub fn $name(
+            knots: &[f64],
+            tags: &[u16],
+            slots: &[f64],
+            curve: &Curve,
+            xs: &[f64],
+            answers: &mut [f64],
+        ) -> u8 {
+            // SAFETY: each pointer and count is one slice's, borrowed until the call is over; the answers' is borrowed by no one else.
+            unsafe {
+                archive::$exported(
+                    knots.as_ptr(),
+                    knots.len(),
+                    tags.as_ptr(),
+                    tags.len(),
+                    slots.as_ptr(),
+                    slots.len(),
+                    curve.tail.value,
+                    curve.tail.total,
+                    curve.tail.from,
+                    curve.extrapolates,
+                    xs.as_ptr(),
+                    xs.len(),
+                    answers.as_mut_ptr(),
+                    answers.len(),
+                )
+            }
+        })*
+    };
+}
+
+many_queries! {
+    values: havgrunel_values;
+    primitives: havgrunel_primitives;
 }
 
 pub fn record(points: usize, slots: &[f64], number: usize, into: &mut [f64]) -> u8 {

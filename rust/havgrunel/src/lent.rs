@@ -237,6 +237,32 @@ pub fn primitive(
     Ok(answer[0])
 }
 
+/// The price at each of `xs`, into the first entries of `answers`, each as [`value`] tells it. The knots are checked once for all, and
+/// `xs` that rise cost a step each. Refused in the order 4, 5, 7, 10, 11, which also tells that `answers` is shorter than `xs`; then by
+/// 12, 13, 15 of the first `x` that is refused, and then nothing is written.
+pub fn values(
+    knots: &[f64],
+    curve: &Curve,
+    tags: &[u16],
+    slots: &[f64],
+    xs: &[f64],
+    answers: &mut [f64],
+) -> Result<(), Refusal> {
+    Refusal::told(ffi::values(knots, tags, slots, curve, xs, answers))
+}
+
+/// The total of all prices up to each of `xs`, refused as [`values`] is.
+pub fn primitives(
+    knots: &[f64],
+    curve: &Curve,
+    tags: &[u16],
+    slots: &[f64],
+    xs: &[f64],
+    answers: &mut [f64],
+) -> Result<(), Refusal> {
+    Refusal::told(ffi::primitives(knots, tags, slots, curve, xs, answers))
+}
+
 /// The method has no derivative, and this is always refused.
 pub fn derivative(x: f64) -> Result<f64, Refusal> {
     // The library has no number to answer with: this is its own refusal.
