@@ -1,11 +1,12 @@
 -- A place told by one comparison: with knots that rise, a knot is above a query exactly where the walk stops before it.
-use Prim.Native.Nat.{ℕ, zero, suc, _+_, _-_, _≤_, _<_}
+use Prim.Native.Nat.{ℕ, zero, suc, _+_, _-_, _*_, _/_, _≤_, _<_}
 use native.Mathlib.Omega.{arith}
 use mathlib.Core.Bool.{Bool, true, false, not, _||_}
 use mathlib.Core.List.{List}
 use mathlib.Core.Logic.{_⊎_, inl, inr, ⊎-elim}
 use mathlib.Core.Path.{_≡_, refl, sym, ap, _∙_}
 use borrow.Author.Tests.{not-true, eqb-true, leb-true}
+use mir.Val.{boolByte}
 use lib.Dec.{eqb, leb}
 use lib.Ieee.{Float, lt}
 use lib.ListN.{length}
@@ -78,3 +79,21 @@ covers-here x q i up l h =
     (λ (e : lt q (at x (i + 1)) ≡ true). omega (arith, below x q (i + 1) (omega arith) e))
     (or-some (leb (length x - 2) i) (lt q (at x (i + 1))) (both .1)) in
     omega (arith, low, high)
+
+-- what stays true of `count` places from `i` on when half of them are left: b tells that the query is below the knot between
+abbrev pub Halved : List Float → Float → ℕ → ℕ → Bool → Type 0
+Halved x q i count b =
+    (i + count / 2 * boolByte (not b) ≤ placeOf x q) × (placeOf x q < i + count / 2 * boolByte (not b) + (count - count / 2))
+    × (i + count / 2 * boolByte (not b) + (count - count / 2) + 1 ≤ length x)
+
+module _ (x : List Float) (q : Float) (up : rising x ≡ true) (i count : ℕ) (low : i ≤ placeOf x q) (high : placeOf x q < i + count) (fit : i + count + 1 ≤ length x) (more : 1 < count) where
+  step : (b : Bool) → lt q (at x (i + count / 2)) ≡ b → Halved x q i count b
+  step true h =
+      let below-it = below x q (i + count / 2) (omega (arith, more)) h in
+      (omega (arith, low), omega (arith, below-it, more), omega (arith, fit, more))
+  step false h =
+      let from-it = not-below x q up (i + count / 2) (omega (arith, fit, more)) h in
+      (omega (arith, from-it), omega (arith, high, more), omega (arith, fit, more))
+
+  pub halved : Halved x q i count (lt q (at x (i + count / 2)))
+  halved = step (lt q (at x (i + count / 2))) refl

@@ -1,16 +1,16 @@
 -- `place::search` meets its contract. The invariant: the place is one of `count` places from `at` on.
-use Prim.Native.Nat.{_+_, _-_, _/_, _≤_, _<_}
+use Prim.Native.Nat.{_+_, _/_, _≤_, _<_}
 use native.Mathlib.Omega.{arith}
 use mathlib.Core.Bool.{true}
-use mathlib.Core.Logic.{⊎-elim}
 use mathlib.Core.Path.{_≡_}
 use borrow.Author.Needs.{needs}
-use borrow.Author.Tests.{not-true, not-false}
+use lib.Ieee.{lt}
 use lib.ListN.{length}
+use Rattle.table.specs.Table.{at}
 use Rattle.table.specs.Check.{rising}
 use Rattle.query.specs.Query.{placeOf}
 use Rattle.query.proofs.Walk.{place-le}
-use Rattle.queries.proofs.Sides.{not-below, below}
+use Rattle.queries.proofs.Sides.{Halved, halved}
 use Rattle.queries.proofs.place.search.Statement.{statement}
 use Rattle.queries.proofs.place.search.Tie as tie
 
@@ -25,19 +25,18 @@ loop-holds c =
     let a = c .args in
     (omega arith, omega (arith, c .pre, place-le (a .xs .now) (a .q)), omega (arith, c .pre), c .pre .1, c .pre .2)
 
+-- after a turn
+turned : (c : tie.After-shared-slice-known Inv-loop μ-loop) →
+    let l = c .before .before .loop in
+    let a = c .before .before .before .args in
+    Halved (a .xs .now) (a .q) (l .at) (l .count) (lt (a .q) (at (a .xs .now) (l .at + l .count / 2)))
+turned c =
+    let l = c .before .before .loop in
+    let a = c .before .before .before .args in
+    halved (a .xs .now) (a .q) (l .inv .4) (l .at) (l .count) (l .inv .0) (l .inv .1) (l .inv .2) (c .before .loop-test .taken)
+
 loop-again : tie.Need-loop-again Inv-loop μ-loop
-loop-again c =
-    let l = c .before .before .before .loop in
-    let a = c .before .before .before .before .args in
-    let p = l .at + l .count / 2 in
-    ⊎-elim
-    (λ w.
-    let h = not-below (a .xs .now) (a .q) (l .inv .4) p (omega (arith, l .inv, c .before .before .loop-test .taken)) (not-true _ (w .0 .taken)) in
-    (omega (arith, w .1, h), omega (arith, w .1, l .inv, c .before .before .loop-test .taken), omega (arith, w .1, l .inv, c .before .before .loop-test .taken), l .inv .3, l .inv .4))
-    (λ w.
-    let h = below (a .xs .now) (a .q) p (omega (arith, c .before .before .loop-test .taken)) (not-false _ (w .0 .left)) in
-    (omega (arith, w .1, l .inv), omega (arith, w .1, h, c .before .before .loop-test .taken), omega (arith, w .1, l .inv, c .before .before .loop-test .taken), l .inv .3, l .inv .4))
-    (c .if1 .came)
+loop-again c = let l = c .before .before .loop in let t = turned c in (t .0, t .1, t .2, l .inv .3, l .inv .4)
 
 pub search-spec : {M : Type 1} → statement M
 search-spec =
@@ -47,6 +46,9 @@ search-spec =
     μ-loop
     (λ c. search needs)
     loop-holds
-    (λ c. search needs) (λ c. search needs) (λ c. search needs) (λ c. search needs) (λ c. search needs) (λ c. search needs)
+    (λ c. search needs) (λ c. search needs) (λ c. search needs) (λ c. search needs)
+    (λ c. let l = c .before .before .loop in omega (arith, turned c, l .inv .3))
+    (λ c. let l = c .before .before .loop in omega (arith, turned c, l .inv .3))
+    (λ c. search needs) (λ c. search needs)
     loop-again
     (λ c. omega (arith, c .before .loop .inv, c .loop-test .left)))
