@@ -11,7 +11,7 @@
  *
  * A NaN is a NaN here, whatever its sign and payload: any may come back. All other numbers are the same on every machine, bit for bit.
  *
- * What each function answers, entry by entry, is a proved equation in crates/export. Two things are taken on trust: the step from checked code
+ * What each function answers, entry by entry, is a proved equation in the crates named export. Two things are taken on trust: the step from checked code
  * to machine code, and that callers keep to the lines above, which no proof on this side can see.
  */
 #ifndef HAVGRUNEL_H

@@ -1,6 +1,3 @@
 pub mod Building
-pub mod Asking
+pub mod Cutting
 pub mod Growing
-pub mod Records
-pub mod Kinds
-pub mod Drawing

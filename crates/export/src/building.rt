@@ -34,7 +34,7 @@ pub(crate) fn no_answer(sections: usize, tail: usize) -> bool
 }
 
 // What a check says where an answer's slice is too short: its own refusal, and else that one, which comes last.
-pub(crate) fn last_refusal(verdict: Verdict) -> u8
+pub fn last_refusal(verdict: Verdict) -> u8
     ensures { λ r. ⌜ r ≡ lastRefusal verdict ⌝ }
 {
     match verdict {

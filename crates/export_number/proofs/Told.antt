@@ -1,0 +1,45 @@
+-- What is told of a query's answer, case by case, and of many.
+use Prim.Native.Nat.{ℕ}
+use mathlib.Core.Bool.{Bool, true, false}
+use mathlib.Core.List.{List}
+use mathlib.Core.Path.{_≡_, ap, _∙_}
+use lib.Ieee.{Float}
+use lib.ListN.{length, set}
+use Rattle.section.specs.declared.section.Section.{Section}
+use Rattle.record.specs.Refusal.{number}
+use Rattle.record.specs.declared.refusal.Refusal.{Refusal}
+use Rattle.record.specs.declared.refusal.Refusal.the-variants.{BufferTooShort}
+use Rattle.record.specs.declared.refusal.Verdict.{Verdict}
+use Rattle.shape.specs.Making.{left}
+use Rattle.curve.specs.declared.curve.Curve.{Curve}
+use Rattle.query.specs.Query.{toldNumber}
+use Rattle.query.specs.declared.single.Asked.{Asked}
+use Rattle.query.specs.declared.single.Asked.the-variants as asked
+use Rattle.queries.specs.Many.{manyVerdict, answersAfter}
+use Rattle.export_number.specs.Asking as asking
+
+-- a query's answer: refused, refused for want of room, or written
+pub query-refused : (short : Bool) (k : Asked) (r : Refusal) (n : ℕ) (old : List Float) → k ≡ asked.Refused r → n ≡ number r →
+    (n ≡ toldNumber (asking.roomed short k) .refusal) × (old ≡ asking.numberLeft (asking.roomed short k) old)
+query-refused short k r n old e f = (rw (e, f), rw e)
+
+pub query-short : (short : Bool) (k : Asked) (v : Float) (n : ℕ) (old : List Float) → short ≡ true → k ≡ asked.Number v → n ≡ number BufferTooShort →
+    (n ≡ toldNumber (asking.roomed short k) .refusal) × (old ≡ asking.numberLeft (asking.roomed short k) old)
+query-short short k v n old h e f = (rw (e, h, f), rw (e, h))
+
+pub query-written : (short : Bool) (k : Asked) (v : Float) (old : List Float) → short ≡ false → k ≡ asked.Number v →
+    (_≡_ {A = ℕ} 0 (toldNumber (asking.roomed short k) .refusal)) × (set old 0 v ≡ asking.numberLeft (asking.roomed short k) old)
+query-written short k v old h e = (rw (e, h), rw (e, h))
+
+-- what is told of an answer is told of its definition
+pub query-told : (short : Bool) (j k : Asked) (n : ℕ) (new old : List Float) → j ≡ k →
+    (n ≡ toldNumber (asking.roomed short j) .refusal) × (new ≡ asking.numberLeft (asking.roomed short j) old) →
+    (n ≡ toldNumber (asking.roomed short k) .refusal) × (new ≡ asking.numberLeft (asking.roomed short k) old)
+query-told short j k n new old e p = (rw e at (p .0), rw e at (p .1))
+
+-- many queries: the library's verdict and answers, of the curve that crossed
+pub many-told : (f : Section → Float → Float) (x : List Float) (j k : Curve) (tags : List ℕ) (slots qs old : List Float) (v : Verdict) (new : List Float) (n : ℕ) → j ≡ k →
+    (v ≡ manyVerdict x j tags slots qs (length old)) × (new ≡ left (manyVerdict x j tags slots qs (length old)) (answersAfter f x j tags slots qs old) old) →
+    n ≡ asking.verdictNumber v →
+    (n ≡ asking.verdictNumber (manyVerdict x k tags slots qs (length old))) × (new ≡ left (manyVerdict x k tags slots qs (length old)) (answersAfter f x k tags slots qs old) old)
+many-told f x j k tags slots qs old v new n e p g = (g ∙ ap asking.verdictNumber (rw e at (p .0)), rw e at (p .1))

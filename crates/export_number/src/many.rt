@@ -1,0 +1,58 @@
+// Prices and running totals at many points of one curve, which is checked once.
+use crate::asking::curve_with;
+use record::refusal::Verdict;
+ghost use mathlib.Core.Path.{_≡_};
+ghost use lib.ListN.{length};
+ghost use Rattle.section.specs.Section.{value, primitive};
+ghost use Rattle.shape.specs.Making.{left};
+ghost use Rattle.queries.specs.Many.{manyVerdict, answersAfter};
+ghost use Rattle.export_number.specs.Asking.{curveWith, verdictNumber};
+
+fn verdict_number(verdict: Verdict) -> u8
+    ensures { λ r. ⌜ r ≡ verdictNumber verdict ⌝ }
+{
+    match verdict {
+        Verdict::Refused(refusal) => refusal.number(),
+        Verdict::Accepted => 0,
+    }
+}
+
+// The price at each x, into the first entries of `answers`; where any x is refused, so are all, and nothing is written.
+#[no_mangle]
+pub extern "C" fn havgrunel_values(
+    knots: &[f64],
+    tags: &[u16],
+    slots: &[f64],
+    tail_value: f64,
+    tail_total: f64,
+    tail_from: f64,
+    extrapolate: bool,
+    xs: &[f64],
+    answers: &mut [f64],
+) -> u8
+    ensures refusal { λ r. ⌜ r ≡ verdictNumber (manyVerdict (now (knots .entry)) (curveWith «tail_value» «tail_total» «tail_from» extrapolate) (now (tags .entry)) (now (slots .entry)) (now (xs .entry)) (length (now (answers .entry)))) ⌝ }
+    ensures answers { λ _. ⌜ now (answers .exit) ≡ left (manyVerdict (now (knots .entry)) (curveWith «tail_value» «tail_total» «tail_from» extrapolate) (now (tags .entry)) (now (slots .entry)) (now (xs .entry)) (length (now (answers .entry)))) (answersAfter value (now (knots .entry)) (curveWith «tail_value» «tail_total» «tail_from» extrapolate) (now (tags .entry)) (now (slots .entry)) (now (xs .entry)) (now (answers .entry))) (now (answers .entry)) ⌝ }
+{
+    let curve = curve_with(tail_value, tail_total, tail_from, extrapolate);
+    verdict_number(queries::many::values(knots, curve, tags, slots, xs, answers))
+}
+
+// The total of all prices up to each x, in the same way.
+#[no_mangle]
+pub extern "C" fn havgrunel_primitives(
+    knots: &[f64],
+    tags: &[u16],
+    slots: &[f64],
+    tail_value: f64,
+    tail_total: f64,
+    tail_from: f64,
+    extrapolate: bool,
+    xs: &[f64],
+    answers: &mut [f64],
+) -> u8
+    ensures refusal { λ r. ⌜ r ≡ verdictNumber (manyVerdict (now (knots .entry)) (curveWith «tail_value» «tail_total» «tail_from» extrapolate) (now (tags .entry)) (now (slots .entry)) (now (xs .entry)) (length (now (answers .entry)))) ⌝ }
+    ensures answers { λ _. ⌜ now (answers .exit) ≡ left (manyVerdict (now (knots .entry)) (curveWith «tail_value» «tail_total» «tail_from» extrapolate) (now (tags .entry)) (now (slots .entry)) (now (xs .entry)) (length (now (answers .entry)))) (answersAfter primitive (now (knots .entry)) (curveWith «tail_value» «tail_total» «tail_from» extrapolate) (now (tags .entry)) (now (slots .entry)) (now (xs .entry)) (now (answers .entry))) (now (answers .entry)) ⌝ }
+{
+    let curve = curve_with(tail_value, tail_total, tail_from, extrapolate);
+    verdict_number(queries::many::primitives(knots, curve, tags, slots, xs, answers))
+}

@@ -1,0 +1,62 @@
+-- 000, the kinds' `new`; 01, Buffers and section records: a single section, and its record in a lent tag and lent slots
+use Prim.Native.Nat.{ℕ}
+use mathlib.Core.Bool.{Bool, cond, _||_}
+use mathlib.Core.List.{List}
+use lib.Dec.{ltb}
+use lib.Ieee.{Float}
+use lib.ListN.{length, set}
+use Rattle.section.specs.EverywhereConstant
+use Rattle.section.specs.ConstantGrad
+use Rattle.convex.specs.ConvexMonotone2
+use Rattle.convex.specs.ConvexMonotone3
+use Rattle.convex.specs.ConvexMonotone4
+use Rattle.convex.specs.ConvexMonotone4Min
+use Rattle.quadratic.specs.Quadratic
+use Rattle.quadratic.specs.QuadraticMin
+use Rattle.section.specs.declared.section.Section.{Section}
+use Rattle.section.specs.declared.section.Section.the-variants as section
+use Rattle.record.specs.Refusal.{number}
+use Rattle.record.specs.Slots.{slotCount, slotsOf}
+use Rattle.record.specs.Tag.{tagOf}
+use Rattle.record.specs.declared.refusal.Refusal.the-variants.{BufferTooShort}
+use Rattle.export.specs.Building.{unless}
+use Rattle.export_section.specs.Records.{copied}
+
+-- a record takes one tag and 24 slots
+abbrev pub noRecord : ℕ → ℕ → Bool
+noRecord tags slots = ltb tags 1 || ltb slots slotCount
+
+abbrev pub putRefusal : ℕ → ℕ → ℕ
+putRefusal tags slots = cond (noRecord tags slots) (number BufferTooShort) 0
+
+module _ (s : Section) (tag : List ℕ) (slots : List Float) where
+  abbrev pub tagPut : List ℕ
+  tagPut = unless (noRecord (length tag) (length slots)) (set tag 0 (tagOf s)) tag
+
+  abbrev pub slotsPut : List Float
+  slotsPut = unless (noRecord (length tag) (length slots)) (copied (slotsOf s) slots) slots
+
+-- a section of each kind
+abbrev pub constant : Float → Float → Float → Section
+constant value «prev_primitive» «x_prev» = section.EverywhereConstant (EverywhereConstant.new value «prev_primitive» «x_prev»)
+
+abbrev pub gradient : Float → Float → Float → Float → Float → Section
+gradient «f_prev» «prev_primitive» «x_prev» «x_next» «f_next» = section.ConstantGrad (ConstantGrad.new «f_prev» «prev_primitive» «x_prev» «x_next» «f_next»)
+
+abbrev pub second : Float → Float → Float → Float → Float → Float → Float → Section
+second «x_prev» «x_next» «g_prev» «g_next» «f_average» eta2 «prev_primitive» = section.ConvexMonotone2 (ConvexMonotone2.new «x_prev» «x_next» «g_prev» «g_next» «f_average» eta2 «prev_primitive»)
+
+abbrev pub third : Float → Float → Float → Float → Float → Float → Float → Section
+third «x_prev» «x_next» «g_prev» «g_next» «f_average» eta3 «prev_primitive» = section.ConvexMonotone3 (ConvexMonotone3.new «x_prev» «x_next» «g_prev» «g_next» «f_average» eta3 «prev_primitive»)
+
+abbrev pub fourth : Float → Float → Float → Float → Float → Float → Float → Section
+fourth «x_prev» «x_next» «g_prev» «g_next» «f_average» eta4 «prev_primitive» = section.ConvexMonotone4 (ConvexMonotone4.new «x_prev» «x_next» «g_prev» «g_next» «f_average» eta4 «prev_primitive»)
+
+abbrev pub fourthMin : Float → Float → Float → Float → Float → Float → Float → Section
+fourthMin «x_prev» «x_next» «g_prev» «g_next» «f_average» eta4 «prev_primitive» = section.ConvexMonotone4Min (ConvexMonotone4Min.new «x_prev» «x_next» «g_prev» «g_next» «f_average» eta4 «prev_primitive»)
+
+abbrev pub quadratic : Float → Float → Float → Float → Float → Float → Section
+quadratic «x_prev» «x_next» «f_prev» «f_next» «f_average» «prev_primitive» = section.Quadratic (Quadratic.new «x_prev» «x_next» «f_prev» «f_next» «f_average» «prev_primitive»)
+
+abbrev pub quadraticMin : Float → Float → Float → Float → Float → Float → Section
+quadraticMin «x_prev» «x_next» «f_prev» «f_next» «f_average» «prev_primitive» = section.QuadraticMin (QuadraticMin.new «x_prev» «x_next» «f_prev» «f_next» «f_average» «prev_primitive»)

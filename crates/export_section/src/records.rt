@@ -1,0 +1,68 @@
+// One section's record: its slots copied out, and what it answers by itself.
+use record::reader::record_slots;
+use record::reader::record_verdict;
+use record::reading::Found;
+use record::reading::read_section;
+use record::refusal::Refusal;
+use record::refusal::Verdict;
+use record::slots::SLOTS;
+ghost use mathlib.Core.Path.{_≡_};
+ghost use Prim.Native.Nat.{_≤_};
+ghost use lib.ListN.{length};
+ghost use Rattle.record.specs.Reading.{readSection};
+ghost use Rattle.record.specs.Slots.{slotCount};
+ghost use Rattle.export_section.specs.Records.{toldVerdict, copied, copyVerdict, copyLeft, sectionRefusal, sectionLeft};
+
+// A record's slots, from the start of one slice to the start of another.
+pub(crate) fn copy(from: &[f64], to: &mut [f64])
+    requires { ⌜ (slotCount ≤ length (now from)) × (slotCount ≤ length (now to)) ⌝ }
+    ensures { λ _. ⌜ now (to .exit) ≡ copied (now (from .entry)) (now (to .entry)) ⌝ }
+{
+    for k in 0..SLOTS {
+        to[k] = from[k];
+    }
+}
+
+// The slots of section `number` of a curve of `points` points, into the first 24 entries of `into`.
+#[no_mangle]
+pub extern "C" fn havgrunel_record(
+    points: usize,
+    slots: &[f64],
+    number: usize,
+    into: &mut [f64],
+) -> u8
+    ensures refusal { λ r. ⌜ r ≡ toldVerdict (copyVerdict points (now (slots .entry)) number (now (into .entry))) ⌝ }
+    ensures into { λ _. ⌜ now (into .exit) ≡ copyLeft points (now (slots .entry)) number (now (into .entry)) (copyVerdict points (now (slots .entry)) number (now (into .entry))) ⌝ }
+{
+    match record_verdict(points, slots, number) {
+        Verdict::Refused(refusal) => refusal.number(),
+        Verdict::Accepted => {
+            if into.len() < SLOTS {
+                return Refusal::BufferTooShort.number();
+            }
+            copy(record_slots(points, slots, number), into);
+            0
+        }
+    }
+}
+
+// What the section of a record answers by itself: its value and its primitive at x, and the node that it ends on, into the first three entries
+// of `answer`.
+#[no_mangle]
+pub extern "C" fn havgrunel_section(tag: u16, slots: &[f64], x: f64, answer: &mut [f64]) -> u8
+    ensures refusal { λ r. ⌜ r ≡ sectionRefusal (readSection tag (now (slots .entry))) (length (now (answer .entry))) ⌝ }
+    ensures answer { λ _. ⌜ now (answer .exit) ≡ sectionLeft (readSection tag (now (slots .entry))) x (now (answer .entry)) ⌝ }
+{
+    match read_section(tag, slots) {
+        Found::Illegal => Refusal::RecordNotLegal.number(),
+        Found::Section(section) => {
+            if answer.len() < 3 {
+                return Refusal::BufferTooShort.number();
+            }
+            answer[0] = section.value(x);
+            answer[1] = section.primitive(x);
+            answer[2] = section.f_next();
+            0
+        }
+    }
+}
