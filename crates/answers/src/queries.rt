@@ -1,6 +1,6 @@
 // A line `x X VALUE PRIMITIVE`: what a section answers at X.
 use crate::records::Record;
-use record::reading::Found;
+use reading::reading::Found;
 use section::section::Section;
 
 fn same(section: Section, x: u64, value: u64, primitive: u64) -> bool {
@@ -14,7 +14,7 @@ fn same(section: Section, x: u64, value: u64, primitive: u64) -> bool {
 // Whether the answers that a line tells are those of a record's section.
 pub fn agrees(record: Record, x: u64, value: u64, primitive: u64) -> bool {
     let slots = record.slots;
-    match record::reading::read_section(record.tag, &slots) {
+    match reading::reading::read_section(record.tag, &slots) {
         Found::Illegal => false,
         Found::Section(section) => same(section, x, value, primitive),
     }

@@ -1,6 +1,6 @@
 // A line `t TAG SLOT0 .. SLOT23 FNEXT`: a section's record, and the node it ends on.
 use lines::words::MOST;
-use record::reading::Found;
+use reading::reading::Found;
 use record::slots::SLOTS;
 use section::section::Section;
 
@@ -45,7 +45,7 @@ fn same_slots(slots: &[f64], words: &[u64; MOST]) -> bool {
 
 // The node that a record's section ends on, where it is legal.
 fn ends_on(tag: u16, slots: &[f64], node: u64) -> bool {
-    match record::reading::read_section(tag, slots) {
+    match reading::reading::read_section(tag, slots) {
         Found::Illegal => false,
         Found::Section(section) => numbers::to_bits(section.f_next()) == node,
     }

@@ -2,8 +2,8 @@
 use crate::build::build;
 use crate::curve::Built;
 use crate::curve::Curve;
-use record::reading::Found;
-use record::reading::read_section;
+use reading::reading::Found;
+use reading::reading::read_section;
 use record::refusal::Refusal;
 use record::slots::SLOTS;
 use table::ends::Seam;

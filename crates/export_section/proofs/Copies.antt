@@ -11,8 +11,8 @@ use Rattle.section.specs.Section as section
 use Rattle.section.specs.declared.section.Section.{Section}
 use Rattle.record.specs.Reader.{recordTests, recordVerdict, recordPart}
 use Rattle.record.specs.Refusal.{first, number, andThen}
-use Rattle.record.specs.declared.reading.Found.{Found}
-use Rattle.record.specs.declared.reading.Found.the-variants as found
+use Rattle.reading.specs.declared.reading.Found.{Found}
+use Rattle.reading.specs.declared.reading.Found.the-variants as found
 use Rattle.record.specs.declared.refusal.Refusal.{Refusal}
 use Rattle.record.specs.declared.refusal.Refusal.the-variants.{BufferTooShort, RecordNotLegal}
 use Rattle.record.specs.declared.refusal.Verdict.{Verdict}

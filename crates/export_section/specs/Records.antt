@@ -10,8 +10,8 @@ use Rattle.section.specs.Section as section
 use Rattle.record.specs.Reader.{recordTests, recordPart}
 use Rattle.record.specs.Refusal.{Test, _⇒_, first, number}
 use Rattle.record.specs.Slots.{slotCount}
-use Rattle.record.specs.declared.reading.Found.{Found}
-use Rattle.record.specs.declared.reading.Found.the-variants as found
+use Rattle.reading.specs.declared.reading.Found.{Found}
+use Rattle.reading.specs.declared.reading.Found.the-variants as found
 use Rattle.record.specs.declared.refusal.Refusal.the-variants.{BufferTooShort, RecordNotLegal}
 use Rattle.record.specs.declared.refusal.Verdict.{Verdict}
 use Rattle.record.specs.declared.refusal.Verdict.the-variants as verdict

@@ -1,15 +1,15 @@
 // One section's record: its slots copied out, and what it answers by itself.
+use reading::reading::Found;
+use reading::reading::read_section;
 use record::reader::record_slots;
 use record::reader::record_verdict;
-use record::reading::Found;
-use record::reading::read_section;
 use record::refusal::Refusal;
 use record::refusal::Verdict;
 use record::slots::SLOTS;
 ghost use mathlib.Core.Path.{_≡_};
 ghost use Prim.Native.Nat.{_≤_};
 ghost use lib.ListN.{length};
-ghost use Rattle.record.specs.Reading.{readSection};
+ghost use Rattle.reading.specs.Reading.{readSection};
 ghost use Rattle.record.specs.Slots.{slotCount};
 ghost use Rattle.export_section.specs.Records.{toldVerdict, copied, copyVerdict, copyLeft, sectionRefusal, sectionLeft};
 

@@ -10,7 +10,7 @@ use Rattle.convex.specs.ConvexMonotone2 as cm2
 use Rattle.convex.specs.ConvexMonotone4 as cm4
 use Rattle.quadratic.specs.QuadraticMin as quadmin
 use Rattle.section.specs.Section as section
-use Rattle.record.specs.Reading.{quadraticFrom, otherFrom, joined, readSection}
+use Rattle.reading.specs.Reading.{quadraticFrom, otherFrom, joined, readSection}
 use Rattle.record.specs.Slots.{quadraticSlots, convexSlots, slotsOf}
 use Rattle.record.specs.Tag.{quadraticTag, convexTag, tagOf}
 use Rattle.table.specs.Check.{allFinite, rising}

@@ -11,8 +11,8 @@ use Rattle.section.specs.declared.section.Section.{Section}
 use Rattle.numbers.specs.Words.{nought}
 use Rattle.numbers.proofs.Ways.{or-none}
 use Rattle.record.specs.Refusal.{first, number}
-use Rattle.record.specs.declared.reading.Found.{Found}
-use Rattle.record.specs.declared.reading.Found.the-variants as found
+use Rattle.reading.specs.declared.reading.Found.{Found}
+use Rattle.reading.specs.declared.reading.Found.the-variants as found
 use Rattle.record.specs.declared.refusal.Refusal.{Refusal}
 use Rattle.record.specs.declared.refusal.Refusal.the-variants.{RecordNotLegal}
 use Rattle.record.specs.declared.refusal.Verdict.{Verdict}

@@ -18,15 +18,15 @@ use Rattle.section.specs.declared.convex_monotone_part.ConvexMonotonePart.{Conv
 use Rattle.section.specs.declared.convex_monotone_part.ConvexMonotonePart.the-variants as convex
 use Rattle.section.specs.declared.section.Section.{Section}
 use Rattle.section.specs.declared.section.Section.the-variants as kind
-use Rattle.record.specs.Reading.{readSection}
+use Rattle.reading.specs.Reading.{readSection}
 use Rattle.record.specs.Refusal.{Test, first}
 use Rattle.record.specs.Slots.{slotCount, slotsOf, quadraticSlots, convexSlots, layout}
 use Rattle.record.specs.Tag.{tagOf}
-use Rattle.record.specs.declared.reading.Found.{Found}
-use Rattle.record.specs.declared.reading.Found.the-variants as found
+use Rattle.reading.specs.declared.reading.Found.{Found}
+use Rattle.reading.specs.declared.reading.Found.the-variants as found
 use Rattle.record.specs.declared.refusal.Verdict.the-variants as verdict
 use Rattle.record.proofs.First.{Passed, passed}
-use Rattle.record.proofs.RoundTrip.{round-trip}
+use Rattle.reading.proofs.RoundTrip.{round-trip}
 use Rattle.table.specs.Table.{at}
 use Rattle.table.specs.declared.method.ConvexMonotone.{ConvexMonotone}
 use Rattle.table.specs.declared.ends.Frame.{Frame}

@@ -10,11 +10,11 @@ use Rattle.section.specs.EverywhereConstant as constant
 use Rattle.section.specs.Section as section
 use Rattle.section.specs.declared.section.Section.{Section}
 use Rattle.section.specs.declared.section.Section.the-variants as kind
-use Rattle.record.specs.Reading.{readSection}
+use Rattle.reading.specs.Reading.{readSection}
 use Rattle.record.specs.Refusal.{Test, _⇒_, first, number}
 use Rattle.record.specs.Slots.{slotCount}
-use Rattle.record.specs.declared.reading.Found.{Found}
-use Rattle.record.specs.declared.reading.Found.the-variants as found
+use Rattle.reading.specs.declared.reading.Found.{Found}
+use Rattle.reading.specs.declared.reading.Found.the-variants as found
 use Rattle.record.specs.declared.refusal.Refusal.{Refusal}
 use Rattle.record.specs.declared.refusal.Refusal.the-variants.{TooFewPoints, KnotNotFinite, KnotsNotRising, TooManyPoints, BufferTooShort, QueryNotANumber, QueryOutside, RecordNotLegal}
 use Rattle.record.specs.declared.refusal.Verdict.{Verdict}

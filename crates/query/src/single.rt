@@ -1,7 +1,7 @@
 // Prices and running totals of a curve that was built.
 use curve::curve::Curve;
-use record::reading::Found;
-use record::reading::read_section;
+use reading::reading::Found;
+use reading::reading::read_section;
 use record::refusal::Refusal;
 use record::refusal::Verdict;
 use record::slots::SLOTS;

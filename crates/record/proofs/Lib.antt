@@ -2,6 +2,4 @@ pub mod Cells
 pub mod First
 pub mod InRange
 pub mod Tags
-pub mod RoundTrip
-pub mod Legal
 pub mod Unique

@@ -1,14 +1,14 @@
--- Tags: how large they get, and which are legal.
-use Prim.Native.Nat.{ℕ, zero, suc, _+_, _^_, _≤_, _<_}
+-- Tags: how large they get.
+use Prim.Native.Nat.{ℕ, _+_, _^_, _≤_, _<_}
 use native.Mathlib.Omega.{arith}
-use mathlib.Core.Bool.{Bool, true, false, _&&_, Bool·beq}
-use mathlib.Core.Path.{_≡_, refl}
-use lib.Dec.{T, lit≤}
+use mathlib.Core.Bool.{Bool, true, false}
+use mathlib.Core.Path.{_≡_}
+use lib.Dec.{lit≤}
 use Rattle.section.specs.declared.quadratic_part.QuadraticPart.{QuadraticPart}
 use Rattle.section.specs.declared.quadratic_part.QuadraticPart.the-variants as quadratic
 use Rattle.section.specs.declared.convex_monotone_part.ConvexMonotonePart.{ConvexMonotonePart}
 use Rattle.section.specs.declared.convex_monotone_part.ConvexMonotonePart.the-variants as convex
-use Rattle.record.specs.Tag.{pack, legal, quadraticTag, convexTag, tagOf}
+use Rattle.record.specs.Tag.{pack, quadraticTag, convexTag}
 
 min-tag : (b : Bool) → pack 2 b 0 false ≤ 0x5000
 min-tag true = lit≤ tt

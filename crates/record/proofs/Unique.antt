@@ -11,9 +11,6 @@ use Rattle.record.proofs.reader.record_verdict.Reads as record-verdict-
 use Rattle.record.proofs.reader.record_slots
 use Rattle.record.proofs.reader.record_slots.Kinds as record-slots-kinds
 use Rattle.record.proofs.reader.record_slots.Reads as record-slots-reads
-use Rattle.record.proofs.reading.read_section
-use Rattle.record.proofs.reading.read_section.Kinds as read-section-kinds
-use Rattle.record.proofs.reading.read_section.Reads as read-section-reads
 use Rattle.record.proofs.refusal.Refusal.number
 use Rattle.record.proofs.refusal.Refusal.number.Kinds as number-kinds
 use Rattle.record.proofs.refusal.Refusal.number.Reads as number-reads
@@ -31,10 +28,6 @@ record-verdict-unique κs a r₁ r₂ s t p q = p ∙ sym q
 pub record-slots-unique : (κs : Lifetimes.Lfts 1) (a : World.ArgsD record_slots.signature κs) (r₁ r₂ : World.ResD record_slots.signature κs)
     (s t : Clauses.AtExit (K.endedOf 1 record-slots-kinds.ps record-slots-kinds.r) κs) → record-slots-reads.Post κs a r₁ s → record-slots-reads.Post κs a r₂ t → now r₁ ≡ now r₂
 record-slots-unique κs a r₁ r₂ s t p q = p ∙ sym q
-
-pub read-section-unique : (κs : Lifetimes.Lfts 1) (a : World.ArgsD read_section.signature κs) (r₁ r₂ : World.ResD read_section.signature κs)
-    (s t : Clauses.AtExit (K.endedOf 1 read-section-kinds.ps read-section-kinds.r) κs) → read-section-reads.Post κs a r₁ s → read-section-reads.Post κs a r₂ t → r₁ ≡ r₂
-read-section-unique κs a r₁ r₂ s t p q = p ∙ sym q
 
 pub number-unique : (κs : Lifetimes.Lfts 0) (a : World.ArgsD number.signature κs) (r₁ r₂ : World.ResD number.signature κs)
     (s t : Clauses.AtExit (K.endedOf 0 number-kinds.ps number-kinds.r) κs) → number-reads.Post κs a r₁ s → number-reads.Post κs a r₂ t → r₁ ≡ r₂

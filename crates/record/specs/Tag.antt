@@ -1,7 +1,6 @@
 -- 01, Buffers and section records: the tag
 use Prim.Native.Nat.{ℕ, _+_, _*_, _/_, _%_, _^_}
-use mathlib.Core.Bool.{Bool, true, false, not, _&&_, _||_}
-use lib.Dec.{leb, eqb}
+use mathlib.Core.Bool.{Bool, true, false}
 use Rattle.convex.specs.declared.convex_monotone4_min.ConvexMonotone4Min.{ConvexMonotone4Min}
 use Rattle.quadratic.specs.declared.quadratic_min.QuadraticMin.{QuadraticMin}
 use Rattle.section.specs.declared.quadratic_part.QuadraticPart.{QuadraticPart}
@@ -33,15 +32,6 @@ bit true = 1
 
 abbrev pub pack : ℕ → Bool → ℕ → Bool → ℕ
 pack quadratic s other t = quadratic * 2 ^ 13 + bit s * 2 ^ 12 + other * 2 ^ 8 + bit t * 2 ^ 7
-
--- a named code each, at least one part, the constant kinds with no quadratic part, split bits only with the Min kinds, nothing spare
-abbrev pub legal : ℕ → Bool
-legal t =
-    leb (quadraticCode t) 2 && leb (otherCode t) 6 && eqb (spare t) 0
-    && not (eqb (quadraticCode t) 0 && eqb (otherCode t) 0)
-    && (not (eqb (otherCode t) 1 || eqb (otherCode t) 2) || eqb (quadraticCode t) 0)
-    && (eqb (quadraticSplit t) 0 || eqb (quadraticCode t) 2)
-    && (eqb (otherSplit t) 0 || eqb (otherCode t) 6)
 
 unfoldable pub quadraticTag : QuadraticPart → ℕ
 quadraticTag (quadratic.Quadratic s) = pack 1 false 0 false

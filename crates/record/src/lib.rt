@@ -1,6 +1,5 @@
-// Records: a section's tag and slots in lent buffers and back, the refusals that every layer tells, and the reader of one record's slots.
+// Records: a section's tag and slots for lent buffers, the refusals that every layer tells, and the reader of one record's slots. `reading` goes the way back.
 pub mod reader;
-pub mod reading;
 pub mod refusal;
 pub mod slots;
 pub mod tag;

@@ -22,14 +22,14 @@ use Rattle.section.specs.declared.section.Section.the-variants as section
 use Rattle.section.specs.Combination as combination
 use Rattle.section.specs.QuadraticPart as quadraticPart
 use Rattle.section.specs.ConvexMonotonePart as convexPart
 use Rattle.record.specs.Slots.{slotCount}
 use Rattle.record.specs.Tag.{spare}
-use Rattle.record.specs.declared.reading.QuadraticFound.{QuadraticFound}
-use Rattle.record.specs.declared.reading.QuadraticFound.the-variants as maybeQuadratic
-use Rattle.record.specs.declared.reading.OtherFound.{OtherFound}
-use Rattle.record.specs.declared.reading.OtherFound.the-variants as maybeOther
-use Rattle.record.specs.declared.reading.Found.{Found}
-use Rattle.record.specs.declared.reading.Found.the-variants as found
+use Rattle.reading.specs.declared.reading.QuadraticFound.{QuadraticFound}
+use Rattle.reading.specs.declared.reading.QuadraticFound.the-variants as maybeQuadratic
+use Rattle.reading.specs.declared.reading.OtherFound.{OtherFound}
+use Rattle.reading.specs.declared.reading.OtherFound.the-variants as maybeOther
+use Rattle.reading.specs.declared.reading.Found.{Found}
+use Rattle.reading.specs.declared.reading.Found.the-variants as found
 
 abbrev pub slot : List Float → ℕ → Float
 slot s i = getD s i nan

@@ -1,8 +1,8 @@
 -- `reading::joined` meets its contract: in each arm both parts are known.
-use Rattle.record.specs.Reading.{joined}
+use Rattle.reading.specs.Reading.{joined}
 use borrow.Author.Needs.{needs}
-use Rattle.record.proofs.reading.joined.Statement.{statement}
-use Rattle.record.proofs.reading.joined.Tie as tie
+use Rattle.reading.proofs.reading.joined.Statement.{statement}
+use Rattle.reading.proofs.reading.joined.Tie as tie
 
 pub joined-spec : {M : Type 1} → statement M
 unfolding joined

@@ -1,9 +1,9 @@
 -- `reading::other_from` meets its contract.
-use Rattle.record.specs.Reading.{otherFrom}
+use Rattle.reading.specs.Reading.{otherFrom}
 use borrow.Author.Tests.{ne-eqb}
 use borrow.Author.Needs.{needs}
-use Rattle.record.proofs.reading.other_from.Statement.{statement}
-use Rattle.record.proofs.reading.other_from.Tie as tie
+use Rattle.reading.proofs.reading.other_from.Statement.{statement}
+use Rattle.reading.proofs.reading.other_from.Tie as tie
 
 pub other-from-spec : {M : Type 1} → statement M
 unfolding otherFrom

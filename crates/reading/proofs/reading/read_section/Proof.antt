@@ -2,9 +2,9 @@
 use mathlib.Core.Path.{_∙_}
 use borrow.Author.Needs.{needs}
 use borrow.Author.Tests.{lt-ltb, le-ltb, eq-eqb, ne-eqb}
-use Rattle.record.specs.Reading.{readSection}
-use Rattle.record.proofs.reading.read_section.Statement.{statement}
-use Rattle.record.proofs.reading.read_section.Tie as tie
+use Rattle.reading.specs.Reading.{readSection}
+use Rattle.reading.proofs.reading.read_section.Statement.{statement}
+use Rattle.reading.proofs.reading.read_section.Tie as tie
 
 pub read-section-spec : {M : Type 1} → statement M
 unfolding readSection

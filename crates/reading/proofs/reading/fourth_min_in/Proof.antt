@@ -1,7 +1,7 @@
 -- `reading::fourth_min_in` meets its contract.
 use borrow.Author.Needs.{needs}
-use Rattle.record.proofs.reading.fourth_min_in.Statement.{statement}
-use Rattle.record.proofs.reading.fourth_min_in.Tie as tie
+use Rattle.reading.proofs.reading.fourth_min_in.Statement.{statement}
+use Rattle.reading.proofs.reading.fourth_min_in.Tie as tie
 
 pub fourth-min-in-spec : {M : Type 1} → statement M
 fourth-min-in-spec =

@@ -12,14 +12,15 @@ use lib.ListN.{length}
 use Rattle.numbers.specs.Every.{allBelow}
 use Rattle.numbers.proofs.Every.{all-at}
 use Rattle.numbers.proofs.Ways.{never, lt-or-le}
-use Rattle.record.specs.Tag.{legal, spare}
-use Rattle.record.specs.Reading.{quadraticFrom, otherFrom, joined, readSection, slot}
-use Rattle.record.specs.declared.reading.QuadraticFound.{QuadraticFound}
-use Rattle.record.specs.declared.reading.QuadraticFound.the-variants as maybeQuadratic
-use Rattle.record.specs.declared.reading.OtherFound.{OtherFound}
-use Rattle.record.specs.declared.reading.OtherFound.the-variants as maybeOther
-use Rattle.record.specs.declared.reading.Found.{Found}
-use Rattle.record.specs.declared.reading.Found.the-variants as found
+use Rattle.record.specs.Tag.{spare}
+use Rattle.reading.specs.Legal.{legal}
+use Rattle.reading.specs.Reading.{quadraticFrom, otherFrom, joined, readSection, slot}
+use Rattle.reading.specs.declared.reading.QuadraticFound.{QuadraticFound}
+use Rattle.reading.specs.declared.reading.QuadraticFound.the-variants as maybeQuadratic
+use Rattle.reading.specs.declared.reading.OtherFound.{OtherFound}
+use Rattle.reading.specs.declared.reading.OtherFound.the-variants as maybeOther
+use Rattle.reading.specs.declared.reading.Found.{Found}
+use Rattle.reading.specs.declared.reading.Found.the-variants as found
 
 -- whether there is a section, and of each part which sort was found: none 0, one that goes alone 1, one that combines 2, unknown 3
 abbrev pub isSection : Found → Bool

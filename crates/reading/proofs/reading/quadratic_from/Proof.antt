@@ -1,9 +1,9 @@
 -- `reading::quadratic_from` meets its contract.
-use Rattle.record.specs.Reading.{quadraticFrom}
+use Rattle.reading.specs.Reading.{quadraticFrom}
 use borrow.Author.Tests.{ne-eqb}
 use borrow.Author.Needs.{needs}
-use Rattle.record.proofs.reading.quadratic_from.Statement.{statement}
-use Rattle.record.proofs.reading.quadratic_from.Tie as tie
+use Rattle.reading.proofs.reading.quadratic_from.Statement.{statement}
+use Rattle.reading.proofs.reading.quadratic_from.Tie as tie
 
 pub quadratic-from-spec : {M : Type 1} → statement M
 unfolding quadraticFrom

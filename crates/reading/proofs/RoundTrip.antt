@@ -12,11 +12,11 @@ use Rattle.section.specs.declared.convex_monotone_part.ConvexMonotonePart.{Conv
 use Rattle.section.specs.declared.convex_monotone_part.ConvexMonotonePart.the-variants as convex
 use Rattle.section.specs.declared.section.Section.{Section}
 use Rattle.section.specs.declared.section.Section.the-variants as section
 use Rattle.record.specs.Tag.{tagOf}
 use Rattle.record.specs.Slots.{slotsOf}
-use Rattle.record.specs.Reading.{readSection}
-use Rattle.record.specs.declared.reading.Found.{Found}
-use Rattle.record.specs.declared.reading.Found.the-variants as found
+use Rattle.reading.specs.Reading.{readSection}
+use Rattle.reading.specs.declared.reading.Found.{Found}
+use Rattle.reading.specs.declared.reading.Found.the-variants as found
 
 abbrev Back : Section → Type 0
 Back s = readSection (tagOf s) (slotsOf s) ≡ found.Section s

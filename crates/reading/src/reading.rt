@@ -1,11 +1,11 @@
 // A section back from its tag and its slots.
-use crate::slots::SLOTS;
 use convex::convex_monotone2::ConvexMonotone2;
 use convex::convex_monotone3::ConvexMonotone3;
 use convex::convex_monotone4::ConvexMonotone4;
 use convex::convex_monotone4_min::ConvexMonotone4Min;
 use quadratic::quadratic::Quadratic;
 use quadratic::quadratic_min::QuadraticMin;
+use record::slots::SLOTS;
 use section::combination::Combination;
 use section::constant_grad::ConstantGrad;
 use section::convex_monotone_part::ConvexMonotonePart;
@@ -15,8 +15,8 @@ use section::section::Section;
 ghost use mathlib.Core.Path.{_≡_};
 ghost use Prim.Native.Nat.{_≤_};
 ghost use lib.ListN.{length};
 ghost use Rattle.record.specs.Slots.{slotCount};
-ghost use Rattle.record.specs.Reading.{quadraticIn, quadraticMinIn, constantIn, gradientIn, secondIn, thirdIn, fourthIn, fourthMinIn, quadraticFrom, otherFrom, joined, readSection};
+ghost use Rattle.reading.specs.Reading.{quadraticIn, quadraticMinIn, constantIn, gradientIn, secondIn, thirdIn, fourthIn, fourthMinIn, quadraticFrom, otherFrom, joined, readSection};
 
 // What a tag's code for the quadratic part stands for.
 pub enum QuadraticFound {

@@ -1,0 +1,3 @@
+pub mod RoundTrip
+pub mod Legal
+pub mod Unique

@@ -1,0 +1,13 @@
+-- Any two answers that a contract allows are the same, of each contract as the checker reads it.
+use mathlib.Core.Path.{_≡_, _∙_, sym}
+use contract.Lifetimes
+use borrow.Fn.World
+use borrow.Fn.Kinds as K
+use denote.Triple.Clauses
+use Rattle.reading.proofs.reading.read_section
+use Rattle.reading.proofs.reading.read_section.Kinds as read-section-kinds
+use Rattle.reading.proofs.reading.read_section.Reads as read-section-reads
+
+pub read-section-unique : (κs : Lifetimes.Lfts 1) (a : World.ArgsD read_section.signature κs) (r₁ r₂ : World.ResD read_section.signature κs)
+    (s t : Clauses.AtExit (K.endedOf 1 read-section-kinds.ps read-section-kinds.r) κs) → read-section-reads.Post κs a r₁ s → read-section-reads.Post κs a r₂ t → r₁ ≡ r₂
+read-section-unique κs a r₁ r₂ s t p q = p ∙ sym q
