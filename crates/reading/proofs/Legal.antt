@@ -1,16 +1,17 @@
--- A tag is read as a section exactly where it is legal, over all 65,536 tags by one computed check; every section's own tag is legal.
+-- A tag is read as a section exactly where it is legal, over all 65,536 tags: those with no spare bit set by one computed check; every section's own tag is legal.
 use Prim.Native.Nat.{ℕ, zero, suc, _+_, _*_, _/_, _%_, _^_, _≤_, _<_}
 use native.Mathlib.Omega.{arith}
 use mathlib.Core.Bool.{Bool, true, false, cond, _&&_, _||_, Bool·beq}
 use mathlib.Core.List.{List}
 use mathlib.Core.Logic.{⊎-elim}
 use mathlib.Core.Path.{_≡_, refl, sym, ap, subst, _∙_}
-use borrow.Author.Tests.{lt-ltb, le-ltb}
+use native.Mathlib.Nat.{add-zero, add-suc, zero-add}
+use borrow.Author.Tests.{lt-ltb, le-ltb, eqb-true, ne-eqb}
 use lib.Dec.{eqb, ltb}
 use lib.Ieee.{Float}
 use lib.ListN.{length}
 use Rattle.numbers.specs.Every.{allBelow}
-use Rattle.numbers.proofs.Every.{all-at}
+use Rattle.numbers.proofs.Every.{all-at, and-right-false}
 use Rattle.numbers.proofs.Ways.{never, lt-or-le}
 use Rattle.record.specs.Tag.{spare}
 use Rattle.reading.specs.Legal.{legal}
@@ -105,11 +106,18 @@ unfolding readSection
 read-readable t s h =
     simp (le-ltb (length s) 24 h, section-cond, joined-sorts, quadratic-sorts, other-sorts)
 
--- the computed check, by the tag's two bytes
+-- a tag with a spare bit set is neither read nor legal
+spare-illegal : (t : ℕ) → eqb (spare t) 0 ≡ false → legal t ≡ false
+spare-illegal t e = simp (e, and-right-false)
+
+spare-unread : (t : ℕ) → eqb (spare t) 0 ≡ false → readable t ≡ false
+spare-unread t e = rw e
+
+-- the computed check of all others, of which there are 512
 abbrev agrees : ℕ → Bool
 agrees t = Bool·beq (readable t) (legal t)
 
-checked : allBelow 256 (λ h. allBelow 256 (λ l. agrees (h * 256 + l))) ≡ true
+checked : allBelow 512 (λ k. agrees (k * 128)) ≡ true
 unfolding allBelow
 checked = refl
 
@@ -119,12 +127,16 @@ beq-same true false h = never h refl
 beq-same false true h = never h refl
 beq-same false false h = refl
 
+by-spare : (clear : Bool) (t : ℕ) → t < 2 ^ 16 → eqb (spare t) 0 ≡ clear → readable t ≡ legal t
+by-spare false t h e = spare-unread t e ∙ sym (spare-illegal t e)
+by-spare true t h e =
+    let z : t % 128 ≡ 0 = eqb-true (spare t) 0 e in
+    let whole : t / 128 * 128 ≡ t = omega arith in
+    let cell = all-at 512 (λ k. agrees (k * 128)) checked (t / 128) (omega arith) in
+    beq-same (readable t) (legal t) (subst (λ (k : ℕ). agrees k ≡ true) whole cell)
+
 readable-legal : (t : ℕ) → t < 2 ^ 16 → readable t ≡ legal t
-readable-legal t h =
-    let e : t / 256 * 256 + t % 256 ≡ t = omega arith in
-    let row = all-at 256 (λ k. allBelow 256 (λ l. agrees (k * 256 + l))) checked (t / 256) (omega arith) in
-    let cell = all-at 256 (λ l. agrees (t / 256 * 256 + l)) row (t % 256) (omega arith) in
-    beq-same (readable t) (legal t) (subst (λ (k : ℕ). agrees k ≡ true) e cell)
+readable-legal t h = by-spare (eqb (spare t) 0) t h refl
 
 -- a tag is read as a section exactly where document 01 calls it legal
 pub legal-exactly : (t : ℕ) (s : List Float) → t < 2 ^ 16 → 24 ≤ length s → isSection (readSection t s) ≡ legal t
@@ -152,5 +164,31 @@ abbrev countRows : ℕ → ℕ
 countRows zero = 0
 countRows (suc n) = count 256 (λ l. legal (n * 256 + l)) + countRows n
 
+-- where no tag of a stretch is legal, the count stands still
+count-gap : (a j : ℕ) (f : ℕ → Bool) → ((i : ℕ) → i < j → f (a + i) ≡ false) → count (a + j) f ≡ count a f
+count-gap a zero f h = rw add-zero
+count-gap a (suc j) f h = rw (add-suc, h j (omega arith), zero-add) (count-gap a j f (λ i l. h i (omega arith)))
+
+-- a row of 256 has two tags with no spare bit set
+abbrev twoOf : ℕ → ℕ
+twoOf n = cond (legal (n * 256 + 128)) 1 0 + (cond (legal (n * 256 + 0)) 1 0 + 0)
+
+row : (n : ℕ) → count 256 (λ l. legal (n * 256 + l)) ≡ twoOf n
+row n =
+    count-gap 129 127 (λ l. legal (n * 256 + l)) (λ i l. spare-illegal (n * 256 + (129 + i)) (ne-eqb (spare (n * 256 + (129 + i))) 0 (λ e. omega arith)))
+    ∙ ap (λ (k : ℕ). cond (legal (n * 256 + 128)) 1 0 + k)
+    (count-gap 1 127 (λ l. legal (n * 256 + l)) (λ i l. spare-illegal (n * 256 + (1 + i)) (ne-eqb (spare (n * 256 + (1 + i))) 0 (λ e. omega arith))))
+
+abbrev countTwos : ℕ → ℕ
+countTwos zero = 0
+countTwos (suc n) = twoOf n + countTwos n
+
+rows : (n : ℕ) → countRows n ≡ countTwos n
+rows zero = refl
+rows (suc n) = rw (row n, rows n)
+
+twos : countTwos 256 ≡ 25
+twos = refl
+
 pub twenty-five : countRows 256 ≡ 25
-twenty-five = refl
+twenty-five = rows 256 ∙ twos
