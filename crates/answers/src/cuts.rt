@@ -56,7 +56,7 @@ fn lent(
     slots: &mut [f64],
 ) -> Outcome {
     let method = kept::method(words[0], words[2], words[3]);
-    kept::outcome_of(sheets::pieces::build_in_sheets(xs, ys, method, cuts, nodes, tags, slots))
+    kept::outcome_of(pieces::pieces::build_in_sheets(xs, ys, method, cuts, nodes, tags, slots))
 }
 
 // The buffers start as those of the whole do, so that what is left in them is the same to the last entry.

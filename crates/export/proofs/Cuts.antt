@@ -17,7 +17,7 @@ use Rattle.curve.specs.Curve.{toldCurve}
 use Rattle.curve.specs.declared.curve.Built.{Built}
 use Rattle.curve.specs.declared.curve.Built.the-variants as built
 use Rattle.curve.specs.declared.curve.Curve.{Curve}
-use Rattle.sheets.specs.InSheets.{cutsFit, inSheets, inSheetsLeft}
+use Rattle.pieces.specs.InSheets.{cutsFit, inSheets, inSheetsLeft}
 use Rattle.export.specs.Building as building
 use Rattle.export.specs.Cutting.{lastCut, cutRefusal, nodesCut, tagsCut, slotsCut, sectionsCut, tailCut}
 use Rattle.export.proofs.Told.{table-short}

@@ -12,7 +12,7 @@ use Rattle.table.specs.declared.ends.Seam.the-variants as seam
 use Rattle.curve.specs.Build as whole
 use Rattle.curve.specs.Curve.{toldCurve}
 use Rattle.curve.specs.declared.curve.Built.{Built}
-use Rattle.sheets.specs.InSheets.{cutsFit, inSheets, inSheetsLeft}
+use Rattle.pieces.specs.InSheets.{cutsFit, inSheets, inSheetsLeft}
 use Rattle.export.specs.Building as building
 
 -- with no room for an answer: the cuts are refused, or the table is, or that comes last

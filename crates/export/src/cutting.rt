@@ -3,16 +3,16 @@ use crate::building::last_refusal;
 use crate::building::no_answer;
 use crate::building::tell;
 use curve::build::build_verdict;
+use pieces::pieces::build_in_sheets;
+use pieces::pieces::cuts_fit;
 use record::refusal::Refusal;
-use sheets::pieces::build_in_sheets;
-use sheets::pieces::cuts_fit;
 use table::ends::Seam;
 use table::method::ConvexMonotone;
 ghost use mathlib.Core.Path.{_≡_};
 ghost use lib.ListN.{length};
 ghost use Rattle.record.specs.Refusal.{first};
 ghost use Rattle.curve.specs.Build.{buildTests};
-ghost use Rattle.sheets.specs.InSheets.{cutsFit};
+ghost use Rattle.pieces.specs.InSheets.{cutsFit};
 ghost use Rattle.export.specs.Cutting.{lastCut, cutRefusal, nodesCut, tagsCut, slotsCut, sectionsCut, tailCut};
 
 // The first refusal of a table in sheets for buffers of these lengths, where its answers have no room.

@@ -1,3 +1,1 @@
 pub mod Sheet
-pub mod Pieces
-pub mod InSheets

@@ -1,3 +1,2 @@
-// A long table in sheets: each is built by itself, into its place in the buffers of the whole.
-pub mod pieces;
+// A sheet of a long table: built by itself, into its place in the buffers of the whole. `pieces` puts the sheets together.
 pub mod sheet;

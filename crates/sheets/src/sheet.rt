@@ -38,7 +38,7 @@ pub struct ToldSheet {
     pub tail: Tail,
 }
 
-pub(crate) fn no_tail() -> Tail
+pub fn no_tail() -> Tail
     ensures { λ r. ⌜ r ≡ noTail ⌝ }
 {
     Tail {

@@ -19,13 +19,13 @@ use Rattle.curve.specs.Build.{nodesLeft, tagsLeft, slotsLeft}
 use Rattle.curve.proofs.build.build
 use Rattle.curve.proofs.build.build.Kinds as build-kinds
 use Rattle.curve.proofs.build.build.Reads as build-reads
-use Rattle.sheets.specs.Pieces.{Piece, whole, part, piecesOf, inner, handed, Buffers, pieceDrawn, afterPiece, afterAll, wholeVerdict, afterWhole}
-use Rattle.sheets.proofs.SameCurve.{same-curve}
-use Rattle.sheets.proofs.Strokes.{One}
-use Rattle.sheets.proofs.Together.{Table, Room}
+use Rattle.pieces.specs.Pieces.{Piece, whole, part, piecesOf, inner, handed, Buffers, pieceDrawn, afterPiece, afterAll, wholeVerdict, afterWhole}
+use Rattle.pieces.proofs.SameCurve.{same-curve}
+use Rattle.pieces.proofs.Strokes.{One}
+use Rattle.pieces.proofs.Together.{Table, Room}
 use Rattle.sheets.proofs.sheet.sheet
 use Rattle.sheets.proofs.sheet.sheet.Kinds as sheet-kinds
 use Rattle.sheets.proofs.sheet.sheet.Reads as sheet-reads
 
 buffers : (c : Buffers) (n : List Float) (t : List ℕ) (l : List Float) → c .nodes ≡ n → c .tags ≡ t → c .slots ≡ l → c ≡ record { nodes = n; tags = t; slots = l }
 buffers c n t l e f g = rw (← e, ← f, ← g)

@@ -17,9 +17,9 @@ use Rattle.table.specs.Table.{nodeAt, totalAt}
 use Rattle.table.specs.declared.method.ConvexMonotone.{ConvexMonotone}
 use Rattle.table.specs.declared.ends.End.{End}
 use Rattle.table.specs.declared.ends.End.the-variants as end
 use Rattle.sheets.specs.Sheet.{noneGiven}
-use Rattle.sheets.specs.Pieces.{Cut, Piece, whole, Fair, piecesFrom, piecesOf, rises, inner, handed}
-use Rattle.sheets.proofs.Strokes.{One}
+use Rattle.pieces.specs.Pieces.{Cut, Piece, whole, Fair, piecesFrom, piecesOf, rises, inner, handed}
+use Rattle.pieces.proofs.Strokes.{One}
 
 -- where a cut stands among the others
 pub record Step (a last : ℕ) (c : Cut) (cs : List Cut) : Type 0 where

@@ -27,16 +27,16 @@ use Rattle.shape.specs.declared.sections.Tail.{Tail}
 use Rattle.shape.proofs.Sizes.{written}
 use Rattle.curve.specs.Build.{wholeFrame, builtOf, curveOf}
 use Rattle.curve.specs.declared.curve.Built.the-variants as built
 use Rattle.sheets.specs.Sheet.{sheetFrame, noTail, endOf}
-use Rattle.sheets.specs.Pieces.{Cut, Piece, whole, Fair, part, piecesOf, inner, handed, Buffers, pieceVerdict, pieceDrawn, afterPiece, afterAll, AllAccepted, wholeVerdict, afterWhole, answerOf}
+use Rattle.pieces.specs.Pieces.{Cut, Piece, whole, Fair, part, piecesOf, inner, handed, Buffers, pieceVerdict, pieceDrawn, afterPiece, afterAll, AllAccepted, wholeVerdict, afterWhole, answerOf}
 use Rattle.sheets.specs.declared.sheet.SheetEnd.{SheetEnd}
 use Rattle.sheets.specs.declared.sheet.Drawn.{Drawn}
 use Rattle.sheets.specs.declared.sheet.Drawn.the-variants as drawn
-use Rattle.sheets.proofs.Alike.{points, nodes-same, tags-same, slots-same, total-after, tail-same}
-use Rattle.sheets.proofs.Cuts.{Stands, given, fair}
+use Rattle.pieces.proofs.Alike.{points, nodes-same, tags-same, slots-same, total-after, tail-same}
+use Rattle.pieces.proofs.Cuts.{Stands, given, fair}
 use Rattle.sheets.proofs.Parts.{drawn-of}
-use Rattle.sheets.proofs.Strokes.{Stretch, One, Has, stroke, strokes, strokes-all}
-use Rattle.sheets.proofs.Together.{Table, Room, Sound, whole-sound, piece-accepted, sound-part, standing, period, knot, room-after, all-accepted}
+use Rattle.pieces.proofs.Strokes.{Stretch, One, Has, stroke, strokes, strokes-all}
+use Rattle.pieces.proofs.Together.{Table, Room, Sound, whole-sound, piece-accepted, sound-part, standing, period, knot, room-after, all-accepted}
 
 -- where a sheet writes
 abbrev nodeStretch : Piece → Stretch

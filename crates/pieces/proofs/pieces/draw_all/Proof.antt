@@ -7,10 +7,10 @@ use borrow.Author.Needs.{needs}
 use lib.Ieee.{Float}
 use lib.ListN.{length}
 use Rattle.numbers.proofs.Overlay.{length-overlay}
 use Rattle.sheets.specs.declared.sheet.SheetEnd.{SheetEnd}
-use Rattle.sheets.proofs.Drawing.{fit, Progress, at-first, nodes-length, tags-length, slots-length, still-ready, in-nodes, above, inside, fair-next, onward, given-right, fair-last, given-last, all-drawn}
-use Rattle.sheets.proofs.pieces.draw_all.Statement.{statement}
-use Rattle.sheets.proofs.pieces.draw_all.Tie as tie
+use Rattle.pieces.proofs.Drawing.{fit, Progress, at-first, nodes-length, tags-length, slots-length, still-ready, in-nodes, above, inside, fair-next, onward, given-right, fair-last, given-last, all-drawn}
+use Rattle.pieces.proofs.pieces.draw_all.Statement.{statement}
+use Rattle.pieces.proofs.pieces.draw_all.Tie as tie
 
 abbrev Inv-loop : tie.InvT-loop
 Inv-loop xs ys method cuts nodes₀ tags₀ slots₀ from₀ total₀ j₀ j-end nodes tags slots from total j =

@@ -30,16 +30,16 @@ use Rattle.shape.proofs.Sizes.{Fits}
 use Rattle.curve.specs.declared.curve.Built.{Built}
 use Rattle.curve.specs.declared.curve.Built.the-variants as built
 use Rattle.curve.proofs.Accepted.{fits}
 use Rattle.sheets.specs.Sheet.{noneGiven}
-use Rattle.sheets.specs.Pieces.{Piece, whole, Fair, Buffers, pieceVerdict, pieceDrawn, afterPiece, answerOf}
-use Rattle.sheets.specs.InSheets.{startOf, cutFits, cutsFit, leftEnd, Ready, inSheets, inSheetsLeft}
+use Rattle.pieces.specs.Pieces.{Piece, whole, Fair, Buffers, pieceVerdict, pieceDrawn, afterPiece, answerOf}
+use Rattle.pieces.specs.InSheets.{startOf, cutFits, cutsFit, leftEnd, Ready, inSheets, inSheetsLeft}
 use Rattle.sheets.specs.declared.sheet.SheetEnd.{SheetEnd}
 use Rattle.sheets.specs.declared.sheet.Drawn.{Drawn}
 use Rattle.sheets.specs.declared.sheet.Drawn.the-variants as drawn
-use Rattle.sheets.proofs.Cuts.{Stands}
-use Rattle.sheets.proofs.SameCurve.{after-one, same-answer}
-use Rattle.sheets.proofs.Strokes.{Stretch, One, stroke, strokes, strokes-all, from-start}
-use Rattle.sheets.proofs.Together.{Table, Room, whole-sound, piece-accepted, sound-part}
+use Rattle.pieces.proofs.Cuts.{Stands}
+use Rattle.pieces.proofs.SameCurve.{after-one, same-answer}
+use Rattle.pieces.proofs.Strokes.{Stretch, One, stroke, strokes, strokes-all, from-start}
+use Rattle.pieces.proofs.Together.{Table, Room, whole-sound, piece-accepted, sound-part}
 
 -- what an accepted table of three points or more tells
 module _ (x y : List Float) (method : ConvexMonotone) (nodes tags slots : ℕ) (ready : Ready x y method nodes tags slots) where

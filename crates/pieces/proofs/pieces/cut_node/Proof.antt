@@ -4,9 +4,9 @@ use mathlib.Core.Path.{sym, _∙_}
 use borrow.Author.Needs.{needs}
 use Rattle.table.specs.Table.{middleAt}
 use Rattle.shape.proofs.Places.{node-middle}
-use Rattle.sheets.specs.Pieces.{whole}
-use Rattle.sheets.proofs.pieces.cut_node.Statement.{statement}
-use Rattle.sheets.proofs.pieces.cut_node.Tie as tie
+use Rattle.pieces.specs.Pieces.{whole}
+use Rattle.pieces.proofs.pieces.cut_node.Statement.{statement}
+use Rattle.pieces.proofs.pieces.cut_node.Tie as tie
 
 returns : tie.Need-returns
 unfolding middleAt

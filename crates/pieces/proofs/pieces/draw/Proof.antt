@@ -6,10 +6,10 @@ use mathlib.Core.Path.{ap, _∙_}
 use borrow.Author.Needs.{needs}
 use lib.Ieee.{Float}
 use lib.ListN.{length}
-use Rattle.sheets.specs.Pieces.{Piece, Buffers}
-use Rattle.sheets.proofs.Drawing.{fit, answered, not-refused, after}
-use Rattle.sheets.proofs.pieces.draw.Statement.{statement}
-use Rattle.sheets.proofs.pieces.draw.Tie as tie
+use Rattle.pieces.specs.Pieces.{Piece, Buffers}
+use Rattle.pieces.proofs.Drawing.{fit, answered, not-refused, after}
+use Rattle.pieces.proofs.pieces.draw.Statement.{statement}
+use Rattle.pieces.proofs.pieces.draw.Tie as tie
 
 part-sheet-end-2 : tie.Need-part-sheet-end-2
 part-sheet-end-2 c =

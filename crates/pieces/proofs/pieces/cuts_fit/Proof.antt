@@ -9,10 +9,10 @@ use lib.Dec.{ltb}
 use lib.ListN.{length, getD}
 use Rattle.numbers.specs.Every.{allBelow}
 use Rattle.numbers.proofs.Every.{all-none, all-more, all-fails}
-use Rattle.sheets.specs.InSheets.{startOf, cutFits, cutsFit}
-use Rattle.sheets.proofs.Drawing.{next-start, cut-low, cut-high, cut-here}
-use Rattle.sheets.proofs.pieces.cuts_fit.Statement.{statement}
-use Rattle.sheets.proofs.pieces.cuts_fit.Tie as tie
+use Rattle.pieces.specs.InSheets.{startOf, cutFits, cutsFit}
+use Rattle.pieces.proofs.Drawing.{next-start, cut-low, cut-high, cut-here}
+use Rattle.pieces.proofs.pieces.cuts_fit.Statement.{statement}
+use Rattle.pieces.proofs.pieces.cuts_fit.Tie as tie
 
 abbrev Inv-loop : tie.InvT-loop
 Inv-loop cuts points last before₀ j₀ j-end before j =

@@ -1,8 +1,8 @@
 -- `pieces::left_end` meets its contract.
 use borrow.Author.Needs.{needs}
 use borrow.Author.Tests.{eq-eqb, ne-eqb}
-use Rattle.sheets.proofs.pieces.left_end.Statement.{statement}
-use Rattle.sheets.proofs.pieces.left_end.Tie as tie
+use Rattle.pieces.proofs.pieces.left_end.Statement.{statement}
+use Rattle.pieces.proofs.pieces.left_end.Tie as tie
 
 pub left-end-spec : {M : Type 1} → statement M
 left-end-spec =

@@ -25,11 +25,11 @@ use Rattle.table.specs.declared.method.ConvexMonotone.{ConvexMonotone}
 use Rattle.table.specs.declared.ends.Seam.the-variants as seam
 use Rattle.shape.specs.Making.{left}
 use Rattle.curve.specs.Build.{buildTests}
 use Rattle.sheets.specs.Sheet.{noneGiven, sheetTests}
-use Rattle.sheets.specs.Pieces.{Cut, Piece, part, piecesOf, inner, Buffers, pieceVerdict, afterPiece, AllAccepted, wholeVerdict}
-use Rattle.sheets.proofs.Alike.{part-length, part-at}
-use Rattle.sheets.proofs.Cuts.{Stands, stands, given, covers, rises-inner}
-use Rattle.sheets.proofs.Strokes.{One}
+use Rattle.pieces.specs.Pieces.{Cut, Piece, part, piecesOf, inner, Buffers, pieceVerdict, afterPiece, AllAccepted, wholeVerdict}
+use Rattle.pieces.proofs.Alike.{part-length, part-at}
+use Rattle.pieces.proofs.Cuts.{Stands, stands, given, covers, rises-inner}
+use Rattle.pieces.proofs.Strokes.{One}
 
 -- what is asked of the numbers
 pub record Sound (x y : List Float) (method : ConvexMonotone) : Type 0 where

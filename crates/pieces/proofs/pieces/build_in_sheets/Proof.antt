@@ -18,11 +18,11 @@ use Rattle.shape.proofs.Sizes.{kept, written}
 use Rattle.curve.specs.Build.{buildVerdict, curveOf}
 use Rattle.curve.specs.declared.curve.Built.the-variants as built
 use Rattle.curve.proofs.Accepted.{refused, made}
-use Rattle.sheets.specs.InSheets.{Ready}
-use Rattle.sheets.proofs.Drawing.{table, three, unfit, unfit-left, fitting, fitting-left}
-use Rattle.sheets.proofs.SameCurve.{whole-frame}
-use Rattle.sheets.proofs.pieces.build_in_sheets.Statement.{statement}
-use Rattle.sheets.proofs.pieces.build_in_sheets.Tie as tie
+use Rattle.pieces.specs.InSheets.{Ready}
+use Rattle.pieces.proofs.Drawing.{table, three, unfit, unfit-left, fitting, fitting-left}
+use Rattle.pieces.proofs.SameCurve.{whole-frame}
+use Rattle.pieces.proofs.pieces.build_in_sheets.Statement.{statement}
+use Rattle.pieces.proofs.pieces.build_in_sheets.Tie as tie
 
 returns : tie.Need-returns
 returns c =

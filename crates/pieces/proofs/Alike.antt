@@ -28,8 +28,8 @@ use Rattle.choice.specs.Choice.{sectionOf}
 use Rattle.shape.specs.Sections.{periodAt, sectionAt, tagAt, slotAt, tailOf}
 use Rattle.shape.specs.declared.sections.Tail.{Tail}
 use Rattle.shape.proofs.Places.{node-first, node-last, node-middle}
 use Rattle.sheets.specs.Sheet.{sheetFrame}
-use Rattle.sheets.specs.Pieces.{Piece, part, whole, Fair}
+use Rattle.pieces.specs.Pieces.{Piece, part, whole, Fair}
 
 module _ {A : Type 0} (p : Piece) (xs : List A) (h : p .to < length xs) where
   pub part-length : length (part p xs) ≡ p .to + 1 - p .from

@@ -1,8 +1,4 @@
 // A whole table, built sheet by sheet.
-use crate::sheet::Drawn;
-use crate::sheet::SheetEnd;
-use crate::sheet::no_tail;
-use crate::sheet::sheet;
 use curve::build::build;
 use curve::build::build_verdict;
 use curve::curve::Built;
@@ -11,6 +7,10 @@ use record::refusal::Refusal;
 use record::refusal::Verdict;
 use shape::nodes::inner;
 use shape::sections::Tail;
+use sheets::sheet::Drawn;
+use sheets::sheet::SheetEnd;
+use sheets::sheet::no_tail;
+use sheets::sheet::sheet;
 use table::ends::End;
 use table::ends::Seam;
 use table::method::ConvexMonotone;
@@ -22,9 +22,9 @@ ghost use lib.Ieee.{nan};
 ghost use Rattle.numbers.specs.Overlay.{overlay};
 ghost use Rattle.table.specs.Table.{nodeAt, totalAt};
 ghost use Rattle.shape.specs.Sections.{tagAt, slotAt, tailOf};
 ghost use Rattle.sheets.specs.Sheet.{noneGiven};
-ghost use Rattle.sheets.specs.Pieces.{whole, Fair, answerOf};
-ghost use Rattle.sheets.specs.InSheets.{cutsFit, leftEnd, Ready, inSheets, inSheetsLeft};
+ghost use Rattle.pieces.specs.Pieces.{whole, Fair, answerOf};
+ghost use Rattle.pieces.specs.InSheets.{cutsFit, leftEnd, Ready, inSheets, inSheetsLeft};
 ghost use Rattle.curve.specs.Build.{builtOf, nodesLeft, tagsLeft, slotsLeft};
 
 fn less_one(n: usize) -> usize

@@ -12,8 +12,8 @@ use Rattle.choice.specs.Choice.{firstRegion, mixed, shaped, sectionOf}
 use Rattle.choice.specs.QuadraticPart.{made, minKind}
 use Rattle.choice.specs.Regions.{flat, minFits, inFirst}
 use Rattle.shape.specs.Sections.{sectionAt, tagAt, tailOf}
 use Rattle.sheets.specs.Sheet.{sheetFrame}
-use Rattle.sheets.specs.Pieces.{whole}
+use Rattle.pieces.specs.Pieces.{whole}
 
 abbrev method : ConvexMonotone
 method = record { quadraticity = nought; monotonicity = one; «force_positive» = false }

@@ -1,0 +1,9 @@
+pub mod Alike
+pub mod Strokes
+pub mod Cuts
+pub mod Together
+pub mod SameCurve
+pub mod Drawing
+pub mod Called
+pub mod Figures
+pub mod Unique
