@@ -4,7 +4,7 @@ use crate::kept::Kept;
 use crate::kept::Outcome;
 use crate::kept::ROOM;
 use crate::kept::TAGS;
-use curve::growth::Previous;
+use growth::growth::Previous;
 use lines::points;
 use lines::points::POINTS;
 use lines::points::Points;
@@ -34,7 +34,7 @@ fn lent(
     let method = kept::method(words[0], words[1], words[2]);
     let localisation = words[3] as usize;
     let final_size = words[4] as usize;
-    kept::outcome_of(curve::growth::grow(
+    kept::outcome_of(growth::growth::grow(
         xs,
         ys,
         method,

@@ -14,12 +14,6 @@ use Rattle.curve.proofs.build.build.Reads as build-reads
 use Rattle.curve.proofs.curve.Curve.with_extrapolation
 use Rattle.curve.proofs.curve.Curve.with_extrapolation.Kinds as with-extrapolation-kinds
 use Rattle.curve.proofs.curve.Curve.with_extrapolation.Reads as with-extrapolation-reads
-use Rattle.curve.proofs.growth.carry
-use Rattle.curve.proofs.growth.carry.Kinds as carry-kinds
-use Rattle.curve.proofs.growth.carry.Reads as carry-reads
-use Rattle.curve.proofs.growth.grow
-use Rattle.curve.proofs.growth.grow.Kinds as grow-kinds
-use Rattle.curve.proofs.growth.grow.Reads as grow-reads
 use Rattle.curve.proofs.curve.Built.told as told-curve
 use Rattle.curve.proofs.curve.Built.told.Kinds as told-curve-kinds
 use Rattle.curve.proofs.curve.Built.told.Reads as told-curve-reads
@@ -36,15 +30,6 @@ build-unique κs a r₁ r₂ s t p q = (p .0 ∙ sym (q .0), p .1 .0 ∙ sym (q 
 pub with-extrapolation-unique : (κs : Lifetimes.Lfts 0) (a : World.ArgsD with_extrapolation.signature κs) (r₁ r₂ : World.ResD with_extrapolation.signature κs)
     (s t : Clauses.AtExit (K.endedOf 0 with-extrapolation-kinds.ps with-extrapolation-kinds.r) κs) → with-extrapolation-reads.Post κs a r₁ s → with-extrapolation-reads.Post κs a r₂ t → r₁ ≡ r₂
 with-extrapolation-unique κs a r₁ r₂ s t p q = p ∙ sym q
-
-pub carry-unique : (κs : Lifetimes.Lfts 2) (a : World.ArgsD carry.signature κs) (r₁ r₂ : World.ResD carry.signature κs)
-    (s t : Clauses.AtExit (K.endedOf 2 carry-kinds.ps carry-kinds.r) κs) → carry-reads.Post κs a r₁ s → carry-reads.Post κs a r₂ t → r₁ ≡ r₂
-carry-unique κs a r₁ r₂ s t p q = p ∙ sym q
-
-pub grow-unique : (κs : Lifetimes.Lfts 7) (a : World.ArgsD grow.signature κs) (r₁ r₂ : World.ResD grow.signature κs)
-    (s t : Clauses.AtExit (K.endedOf 7 grow-kinds.ps grow-kinds.r) κs) → grow-reads.Post κs a r₁ s → grow-reads.Post κs a r₂ t →
-    (r₁ ≡ r₂) × (now (s .1 .1 .1 .1 .1 .1 .1 .1 .0) ≡ now (t .1 .1 .1 .1 .1 .1 .1 .1 .0)) × (now (s .1 .1 .1 .1 .1 .1 .1 .1 .1 .0) ≡ now (t .1 .1 .1 .1 .1 .1 .1 .1 .1 .0)) × (now (s .1 .1 .1 .1 .1 .1 .1 .1 .1 .1 .0) ≡ now (t .1 .1 .1 .1 .1 .1 .1 .1 .1 .1 .0))
-grow-unique κs a r₁ r₂ s t p q = (p .0 ∙ sym (q .0), p .1 .0 ∙ sym (q .1 .0), p .1 .1 .0 ∙ sym (q .1 .1 .0), p .1 .1 .1 ∙ sym (q .1 .1 .1))
 
 pub told-curve-unique : (κs : Lifetimes.Lfts 0) (a : World.ArgsD told-curve.signature κs) (r₁ r₂ : World.ResD told-curve.signature κs)
     (s t : Clauses.AtExit (K.endedOf 0 told-curve-kinds.ps told-curve-kinds.r) κs) → told-curve-reads.Post κs a r₁ s → told-curve-reads.Post κs a r₂ t → r₁ ≡ r₂

@@ -1,3 +1,2 @@
 pub mod Curve
 pub mod Build
-pub mod Growth

@@ -4,9 +4,9 @@ use mathlib.Core.Bool.{true}
 use mathlib.Core.List.{List}
 use mathlib.Core.Path.{_≡_, refl}
 use lib.Ieee.{Float}
-use Rattle.curve.specs.Growth.{carriedAt, seamOf}
+use Rattle.growth.specs.Growth.{carriedAt, seamOf}
 use Rattle.curve.specs.declared.curve.Curve.{Curve}
-use Rattle.curve.specs.declared.growth.Previous.the-variants as previous
+use Rattle.growth.specs.declared.growth.Previous.the-variants as previous
 use Rattle.export.specs.Growing.{previousOf}
 
 -- how many sections there are and whether the last was held

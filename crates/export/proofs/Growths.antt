@@ -13,11 +13,11 @@ use Rattle.table.specs.declared.method.ConvexMonotone.{ConvexMonotone}
 use Rattle.table.specs.declared.ends.Seam.{Seam}
 use Rattle.curve.specs.Build.{buildTests, buildVerdict, wholeFrame, builtOf, nodesLeft, tagsLeft, slotsLeft}
 use Rattle.curve.specs.Curve.{toldCurve}
-use Rattle.curve.specs.Growth.{carriedAt, grown, grownLeft, holds}
+use Rattle.growth.specs.Growth.{carriedAt, grown, grownLeft, holds}
 use Rattle.curve.specs.declared.curve.Built.{Built}
-use Rattle.curve.specs.declared.growth.Carried.{Carried}
-use Rattle.curve.specs.declared.growth.Carried.the-variants as carried
-use Rattle.curve.specs.declared.growth.Previous.{Previous}
+use Rattle.growth.specs.declared.growth.Carried.{Carried}
+use Rattle.growth.specs.declared.growth.Carried.the-variants as carried
+use Rattle.growth.specs.declared.growth.Previous.{Previous}
 use Rattle.export.specs.Building.{noAnswer, lastRefusal, roomed, countLeft, recordLeft}
 use Rattle.export.specs.Growing.{previousOf, lastGrowth, growRefusal, nodesGrown, tagsGrown, slotsGrown, sectionsGrown, tailGrown}
 use Rattle.export.proofs.Tables.{told-short, told-roomy, stays, left}

@@ -11,12 +11,12 @@ use Rattle.table.specs.Method.{new}
 use Rattle.table.specs.declared.ends.Seam.{Seam}
 use Rattle.curve.specs.Build.{builtOf, nodesLeft, tagsLeft, slotsLeft}
 use Rattle.curve.specs.Curve.{toldCurve}
-use Rattle.curve.specs.Growth.{carriedAt, grown, grownLeft, holds}
+use Rattle.growth.specs.Growth.{carriedAt, grown, grownLeft, holds}
 use Rattle.curve.specs.declared.curve.Built.{Built}
-use Rattle.curve.specs.declared.growth.Carried.{Carried}
-use Rattle.curve.specs.declared.growth.Carried.the-variants as carried
-use Rattle.curve.specs.declared.growth.Previous.{Previous}
-use Rattle.curve.specs.declared.growth.Previous.the-variants as previous
+use Rattle.growth.specs.declared.growth.Carried.{Carried}
+use Rattle.growth.specs.declared.growth.Carried.the-variants as carried
+use Rattle.growth.specs.declared.growth.Previous.{Previous}
+use Rattle.growth.specs.declared.growth.Previous.the-variants as previous
 use Rattle.export.specs.Building.{noAnswer, lastRefusal, roomed, countLeft, recordLeft, unless}
 
 -- growth reads how many sections there were and whether the last was held, and no more

@@ -4,17 +4,17 @@ use crate::building::no_answer;
 use crate::building::tell;
 use curve::build::build_verdict;
 use curve::curve::Curve;
-use curve::growth::Carried;
-use curve::growth::Previous;
-use curve::growth::carry;
-use curve::growth::grow;
+use growth::growth::Carried;
+use growth::growth::Previous;
+use growth::growth::carry;
+use growth::growth::grow;
 use shape::sections::Tail;
 use table::method::ConvexMonotone;
 ghost use mathlib.Core.Path.{_≡_};
 ghost use lib.ListN.{length};
 ghost use Rattle.record.specs.Refusal.{first};
 ghost use Rattle.curve.specs.Build.{buildTests};
-ghost use Rattle.curve.specs.Growth.{carriedAt};
+ghost use Rattle.growth.specs.Growth.{carriedAt};
 ghost use Rattle.export.specs.Growing.{previousOf, lastGrowth, growRefusal, nodesGrown, tagsGrown, slotsGrown, sectionsGrown, tailGrown};
 
 // What growth reads of the previous curve beside its records. It asks for no price, so the record beyond the last knot is not needed.

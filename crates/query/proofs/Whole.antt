@@ -12,13 +12,13 @@ use Rattle.table.specs.declared.ends.Frame.{Frame}
 use Rattle.table.specs.declared.ends.Seam.{Seam}
 use Rattle.curve.specs.Build.{buildVerdict, wholeFrame, curveOf, builtOf, tagsLeft, slotsLeft}
 use Rattle.curve.specs.Curve.{withExtrapolation}
-use Rattle.curve.specs.Growth.{grown, grownLeft}
+use Rattle.growth.specs.Growth.{grown, grownLeft}
 use Rattle.query.specs.Query.{outside, coveredAt, ask}
 use Rattle.shape.specs.Sections.{tailOf}
 use Rattle.curve.specs.declared.curve.Curve.{Curve}
 use Rattle.curve.specs.declared.curve.Built.the-variants as built
-use Rattle.curve.specs.declared.growth.Carried.{Carried}
-use Rattle.curve.specs.declared.growth.Carried.the-variants as carried
+use Rattle.growth.specs.declared.growth.Carried.{Carried}
+use Rattle.growth.specs.declared.growth.Carried.the-variants as carried
 use Rattle.query.specs.declared.single.Asked.the-variants as asked
 use Rattle.query.proofs.ReadBack.{answering, asked-of-built}
 

@@ -2,7 +2,7 @@
 use mathlib.Core.Path.{sym, _∙_}
 use borrow.Author.Needs.{needs}
 use lib.ListN.{length}
-use Rattle.curve.specs.Growth.{carriedAt}
+use Rattle.growth.specs.Growth.{carriedAt}
 use Rattle.export.proofs.Growths.{carried-refused, carried-seam}
 use Rattle.export.proofs.growing.refusal_of.Statement.{statement}
 use Rattle.export.proofs.growing.refusal_of.Tie as tie

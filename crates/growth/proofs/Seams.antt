@@ -19,14 +19,14 @@ use Rattle.record.specs.declared.refusal.Refusal.{Refusal}
 use Rattle.record.specs.declared.refusal.Refusal.the-variants.{NoPreviousCurve, RecordNotLegal}
 use Rattle.table.specs.declared.ends.Seam.{Seam}
 use Rattle.table.specs.declared.ends.Seam.the-variants as seam
-use Rattle.curve.specs.Growth.{firstWindow, seamAfter, beyond, seamOf, carriedAt, grown, grownLeft}
+use Rattle.growth.specs.Growth.{firstWindow, seamAfter, beyond, seamOf, carriedAt, grown, grownLeft}
 use Rattle.curve.specs.declared.curve.Curve.{Curve}
 use Rattle.curve.specs.declared.curve.Built.{Built}
 use Rattle.curve.specs.declared.curve.Built.the-variants as built
-use Rattle.curve.specs.declared.growth.Previous.{Previous}
-use Rattle.curve.specs.declared.growth.Previous.the-variants as previous
-use Rattle.curve.specs.declared.growth.Carried.{Carried}
-use Rattle.curve.specs.declared.growth.Carried.the-variants as carried
+use Rattle.growth.specs.declared.growth.Previous.{Previous}
+use Rattle.growth.specs.declared.growth.Previous.the-variants as previous
+use Rattle.growth.specs.declared.growth.Carried.{Carried}
+use Rattle.growth.specs.declared.growth.Carried.the-variants as carried
 
 -- the window, told without the sum
 pub no-window : (n l : ℕ) → n ≡ 0 → false ≡ firstWindow n l

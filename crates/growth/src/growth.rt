@@ -1,7 +1,7 @@
 // From one curve to the next: a table that has grown by a point keeps what its sections were.
-use crate::build::build;
-use crate::curve::Built;
-use crate::curve::Curve;
+use curve::build::build;
+use curve::curve::Built;
+use curve::curve::Curve;
 use reading::reading::Found;
 use reading::reading::read_section;
 use record::refusal::Refusal;
@@ -13,8 +13,8 @@ ghost use mathlib.Core.Bool.{_||_};
 ghost use Prim.Native.Nat.{_+_, _-_, _*_, _≤_, _<_};
 ghost use lib.Dec.{eqb};
 ghost use lib.ListN.{length};
 ghost use Rattle.curve.specs.Build.{builtOf, nodesLeft, tagsLeft, slotsLeft};
-ghost use Rattle.curve.specs.Growth.{firstWindow, retained, seamAfter, beyond, seamOf, carriedAt, grown, grownLeft, holds};
+ghost use Rattle.growth.specs.Growth.{firstWindow, retained, seamAfter, beyond, seamOf, carriedAt, grown, grownLeft, holds};
 
 // The curve that a table grows from. Its tags and slots are lent beside it.
 pub enum Previous {

@@ -2,10 +2,10 @@
 use mathlib.Core.Path.{sym, _∙_}
 use borrow.Author.Needs.{needs}
 use lib.ListN.{length}
-use Rattle.curve.specs.Growth.{carriedAt}
-use Rattle.curve.proofs.Seams.{not-grown, not-written, is-grown, is-written}
-use Rattle.curve.proofs.growth.grow.Statement.{statement}
-use Rattle.curve.proofs.growth.grow.Tie as tie
+use Rattle.growth.specs.Growth.{carriedAt}
+use Rattle.growth.proofs.Seams.{not-grown, not-written, is-grown, is-written}
+use Rattle.growth.proofs.growth.grow.Statement.{statement}
+use Rattle.growth.proofs.growth.grow.Tie as tie
 
 returns : tie.Need-returns
 returns c =

@@ -1,10 +1,10 @@
 -- `growth::carry` meets its contract: the window first, then the previous curve.
 use borrow.Author.Needs.{needs}
 use lib.ListN.{length}
-use Rattle.curve.proofs.Seams.{in-window, past-none, past-curve}
+use Rattle.growth.proofs.Seams.{in-window, past-none, past-curve}
 use Rattle.numbers.proofs.Ways.{told}
-use Rattle.curve.proofs.growth.carry.Statement.{statement}
-use Rattle.curve.proofs.growth.carry.Tie as tie
+use Rattle.growth.proofs.growth.carry.Statement.{statement}
+use Rattle.growth.proofs.growth.carry.Tie as tie
 
 pub carry-spec : {M : Type 1} → statement M
 carry-spec =

@@ -13,13 +13,13 @@ use Rattle.reading.specs.declared.reading.Found.the-variants as found
 use Rattle.record.specs.declared.refusal.Refusal.the-variants.{NoPreviousCurve, RecordNotLegal}
 use Rattle.table.specs.declared.ends.Seam.{Seam}
 use Rattle.table.specs.declared.ends.Seam.the-variants as seam
 use Rattle.curve.specs.declared.curve.Curve.{Curve}
 use Rattle.curve.specs.declared.curve.Built.{Built}
 use Rattle.curve.specs.declared.curve.Built.the-variants as built
-use Rattle.curve.specs.declared.growth.Previous.{Previous}
-use Rattle.curve.specs.declared.growth.Previous.the-variants as previous
-use Rattle.curve.specs.declared.growth.Carried.{Carried}
-use Rattle.curve.specs.declared.growth.Carried.the-variants as carried
+use Rattle.growth.specs.declared.growth.Previous.{Previous}
+use Rattle.growth.specs.declared.growth.Previous.the-variants as previous
+use Rattle.growth.specs.declared.growth.Carried.{Carried}
+use Rattle.growth.specs.declared.growth.Carried.the-variants as carried
 
 abbrev pub firstWindow : ℕ → ℕ → Bool
 firstWindow points localisation = eqb points (localisation + 1)

@@ -5,9 +5,9 @@ use mathlib.Core.Path.{_≡_, sym, _∙_}
 use borrow.Author.Needs.{needs}
 use lib.ListN.{take, drop, getD}
 use Rattle.reading.specs.Reading.{readSection}
-use Rattle.curve.proofs.Seams.{after-none, after-section, after-illegal}
-use Rattle.curve.proofs.growth.seam_after.Statement.{statement}
-use Rattle.curve.proofs.growth.seam_after.Tie as tie
+use Rattle.growth.proofs.Seams.{after-none, after-section, after-illegal}
+use Rattle.growth.proofs.growth.seam_after.Statement.{statement}
+use Rattle.growth.proofs.growth.seam_after.Tie as tie
 
 read : (c : tie.After-read-section) → let a = c .before .before .before .before .before .before .args in
     c .read-section .result ≡ readSection (getD (a .tags .now) (a .count - 1) 0) (take 24 (drop (24 * (a .count - 1)) (a .slots .now)))

@@ -1,8 +1,8 @@
 -- `growth::in_first_window` meets its contract.
-use Rattle.curve.proofs.Seams.{no-window, same-window}
+use Rattle.growth.proofs.Seams.{no-window, same-window}
 use borrow.Author.Needs.{needs}
-use Rattle.curve.proofs.growth.in_first_window.Statement.{statement}
-use Rattle.curve.proofs.growth.in_first_window.Tie as tie
+use Rattle.growth.proofs.growth.in_first_window.Statement.{statement}
+use Rattle.growth.proofs.growth.in_first_window.Tie as tie
 
 pub in-first-window-spec : {M : Type 1} → statement M
 in-first-window-spec =

@@ -1,8 +1,8 @@
 -- `growth::is_beyond` meets its contract.
 use borrow.Author.Tests.{lt-ltb, le-ltb}
 use borrow.Author.Needs.{needs}
-use Rattle.curve.proofs.growth.is_beyond.Statement.{statement}
-use Rattle.curve.proofs.growth.is_beyond.Tie as tie
+use Rattle.growth.proofs.growth.is_beyond.Statement.{statement}
+use Rattle.growth.proofs.growth.is_beyond.Tie as tie
 
 pub is-beyond-spec : {M : Type 1} → statement M
 is-beyond-spec =

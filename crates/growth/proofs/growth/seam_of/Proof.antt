@@ -5,11 +5,11 @@ use mathlib.Core.Bool.{true, false}
 use mathlib.Core.Path.{_≡_}
 use borrow.Author.Needs.{needs}
 use lib.ListN.{length}
-use Rattle.curve.specs.Growth.{beyond}
-use Rattle.curve.proofs.Seams.{Holds, holds-all, of-none, of-beyond, of-held, of-free}
+use Rattle.growth.specs.Growth.{beyond}
+use Rattle.growth.proofs.Seams.{Holds, holds-all, of-none, of-beyond, of-held, of-free}
 use Rattle.numbers.proofs.Ways.{told}
-use Rattle.curve.proofs.growth.seam_of.Statement.{statement}
-use Rattle.curve.proofs.growth.seam_of.Tie as tie
+use Rattle.growth.proofs.growth.seam_of.Statement.{statement}
+use Rattle.growth.proofs.growth.seam_of.Tie as tie
 
 within : (c : tie.Else2) → let a = c .before .before .before .before .before .args in beyond (a .curve .sections) (length (a .tags .now)) (length (a .slots .now)) ≡ false
 within c = told (c .before .is-beyond .ensures) (c .if2 .left)
