@@ -1,10 +1,5 @@
-// What a line tells, held against the library's own answer.
-pub mod curves;
-pub mod cuts;
-pub mod growths;
-pub mod kept;
+// What a line tells of a root or of a single section, held against the library's own answer.
 pub mod queries;
 pub mod records;
 pub mod roots;
 pub mod sections;
-pub mod tables;

@@ -1,19 +1,19 @@
 // The lines about one section or one curve: first how it is made, then its records, then what it answers.
 use crate::seen::Seen;
-use answers::curves;
-use answers::cuts;
-use answers::cuts::Cut;
-use answers::growths;
-use answers::kept;
-use answers::kept::Kept;
-use answers::kept::Outcome;
 use answers::queries;
 use answers::records;
 use answers::records::Record;
 use answers::roots;
 use answers::sections;
-use answers::tables;
 use curve::curve::Curve;
+use curveanswers::curves;
+use curveanswers::cuts;
+use curveanswers::cuts::Cut;
+use curveanswers::growths;
+use curveanswers::kept;
+use curveanswers::kept::Kept;
+use curveanswers::kept::Outcome;
+use curveanswers::tables;
 use lines::words::MOST;
 
 // What the next lines are about: a section whose record is not told yet, or that is asked; an outcome that is not told yet; a curve of which so many

@@ -1,8 +1,8 @@
 -- `cuts::places` is safe and ends: the place rises to the count of the places.
 use borrow.Author.Needs.{needs}
 use Prim.Native.Nat.{_≤_, _-_}
-use Rattle.answers.proofs.cuts.places.Statement.{statement}
-use Rattle.answers.proofs.cuts.places.Tie as tie
+use Rattle.curveanswers.proofs.cuts.places.Statement.{statement}
+use Rattle.curveanswers.proofs.cuts.places.Tie as tie
 
 abbrev Inv-loop : tie.InvT-loop
 Inv-loop found₀ i₀ found i = (i ≤ 32)

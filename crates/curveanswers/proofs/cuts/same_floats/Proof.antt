@@ -3,8 +3,8 @@ use borrow.Author.Needs.{needs}
 use mathlib.Core.Path.{_≡_}
 use Prim.Native.Nat.{_-_}
 use lib.ListN.{length}
-use Rattle.answers.proofs.cuts.same_floats.Statement.{statement}
-use Rattle.answers.proofs.cuts.same_floats.Tie as tie
+use Rattle.curveanswers.proofs.cuts.same_floats.Statement.{statement}
+use Rattle.curveanswers.proofs.cuts.same_floats.Tie as tie
 
 abbrev Inv-loop : tie.InvT-loop
 Inv-loop one other i₀ i = (length one ≡ length other)

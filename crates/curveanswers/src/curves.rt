@@ -3,7 +3,7 @@ use crate::kept;
 use crate::kept::Kept;
 use crate::kept::Outcome;
 use crate::kept::TAGS;
-use crate::records;
+use answers::records;
 use curve::curve::Curve;
 use lines::points;
 use lines::words::MOST;

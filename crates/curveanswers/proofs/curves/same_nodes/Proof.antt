@@ -2,8 +2,8 @@
 use borrow.Author.Needs.{needs}
 use Prim.Native.Nat.{_≤_, _-_}
 use lib.ListN.{length}
-use Rattle.answers.proofs.curves.same_nodes.Statement.{statement}
-use Rattle.answers.proofs.curves.same_nodes.Tie as tie
+use Rattle.curveanswers.proofs.curves.same_nodes.Statement.{statement}
+use Rattle.curveanswers.proofs.curves.same_nodes.Tie as tie
 
 abbrev Inv-loop : tie.InvT-loop
 Inv-loop nodes words count i₀ i = (count ≤ length nodes) × (count ≤ 72)
