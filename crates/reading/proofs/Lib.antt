@@ -1,3 +1,4 @@
 pub mod RoundTrip
 pub mod Legal
 pub mod Unique
+pub mod Numbers

@@ -4,6 +4,12 @@ use contract.Lifetimes
 use borrow.Fn.World
 use borrow.Fn.Kinds as K
 use denote.Triple.Clauses
+use Rattle.reading.proofs.number.value_in
+use Rattle.reading.proofs.number.value_in.Kinds as value-in-kinds
+use Rattle.reading.proofs.number.value_in.Reads as value-in-reads
+use Rattle.reading.proofs.number.primitive_in
+use Rattle.reading.proofs.number.primitive_in.Kinds as primitive-in-kinds
+use Rattle.reading.proofs.number.primitive_in.Reads as primitive-in-reads
 use Rattle.reading.proofs.reading.read_section
 use Rattle.reading.proofs.reading.read_section.Kinds as read-section-kinds
 use Rattle.reading.proofs.reading.read_section.Reads as read-section-reads
@@ -11,3 +17,11 @@ use Rattle.reading.proofs.reading.read_section.Reads as read-section-re
 pub read-section-unique : (κs : Lifetimes.Lfts 1) (a : World.ArgsD read_section.signature κs) (r₁ r₂ : World.ResD read_section.signature κs)
     (s t : Clauses.AtExit (K.endedOf 1 read-section-kinds.ps read-section-kinds.r) κs) → read-section-reads.Post κs a r₁ s → read-section-reads.Post κs a r₂ t → r₁ ≡ r₂
 read-section-unique κs a r₁ r₂ s t p q = p ∙ sym q
+
+pub value-in-unique : (κs : Lifetimes.Lfts 1) (a : World.ArgsD value_in.signature κs) (r₁ r₂ : World.ResD value_in.signature κs)
+    (s t : Clauses.AtExit (K.endedOf 1 value-in-kinds.ps value-in-kinds.r) κs) → value-in-reads.Post κs a r₁ s → value-in-reads.Post κs a r₂ t → r₁ ≡ r₂
+value-in-unique κs a r₁ r₂ s t p q = p ∙ sym q
+
+pub primitive-in-unique : (κs : Lifetimes.Lfts 1) (a : World.ArgsD primitive_in.signature κs) (r₁ r₂ : World.ResD primitive_in.signature κs)
+    (s t : Clauses.AtExit (K.endedOf 1 primitive-in-kinds.ps primitive-in-kinds.r) κs) → primitive-in-reads.Post κs a r₁ s → primitive-in-reads.Post κs a r₂ t → r₁ ≡ r₂
+primitive-in-unique κs a r₁ r₂ s t p q = p ∙ sym q

@@ -39,7 +39,7 @@ pub enum Found {
     Illegal,
 }
 
-fn quadratic_in(slots: &[f64]) -> Quadratic
+pub(crate) fn quadratic_in(slots: &[f64]) -> Quadratic
     requires { ⌜ slotCount ≤ length (now slots) ⌝ }
     ensures { λ r. ⌜ r ≡ quadraticIn (now (slots .entry)) ⌝ }
 {
@@ -54,7 +54,7 @@ fn quadratic_in(slots: &[f64]) -> Quadratic
     }
 }
 
-fn quadratic_min_in(split_region: bool, slots: &[f64]) -> QuadraticMin
+pub(crate) fn quadratic_min_in(split_region: bool, slots: &[f64]) -> QuadraticMin
     requires { ⌜ slotCount ≤ length (now slots) ⌝ }
     ensures { λ r. ⌜ r ≡ quadraticMinIn «split_region» (now (slots .entry)) ⌝ }
 {
@@ -75,7 +75,7 @@ fn quadratic_min_in(split_region: bool, slots: &[f64]) -> QuadraticMin
     }
 }
 
-fn constant_in(slots: &[f64]) -> EverywhereConstant
+pub(crate) fn constant_in(slots: &[f64]) -> EverywhereConstant
     requires { ⌜ slotCount ≤ length (now slots) ⌝ }
     ensures { λ r. ⌜ r ≡ constantIn (now (slots .entry)) ⌝ }
 {
@@ -86,7 +86,7 @@ fn constant_in(slots: &[f64]) -> EverywhereConstant
     }
 }
 
-fn gradient_in(slots: &[f64]) -> ConstantGrad
+pub(crate) fn gradient_in(slots: &[f64]) -> ConstantGrad
     requires { ⌜ slotCount ≤ length (now slots) ⌝ }
     ensures { λ r. ⌜ r ≡ gradientIn (now (slots .entry)) ⌝ }
 {
@@ -99,7 +99,7 @@ fn gradient_in(slots: &[f64]) -> ConstantGrad
     }
 }
 
-fn second_in(slots: &[f64]) -> ConvexMonotone2
+pub(crate) fn second_in(slots: &[f64]) -> ConvexMonotone2
     requires { ⌜ slotCount ≤ length (now slots) ⌝ }
     ensures { λ r. ⌜ r ≡ secondIn (now (slots .entry)) ⌝ }
 {
@@ -114,7 +114,7 @@ fn second_in(slots: &[f64]) -> ConvexMonotone2
     }
 }
 
-fn third_in(slots: &[f64]) -> ConvexMonotone3
+pub(crate) fn third_in(slots: &[f64]) -> ConvexMonotone3
     requires { ⌜ slotCount ≤ length (now slots) ⌝ }
     ensures { λ r. ⌜ r ≡ thirdIn (now (slots .entry)) ⌝ }
 {
@@ -129,7 +129,7 @@ fn third_in(slots: &[f64]) -> ConvexMonotone3
     }
 }
 
-fn fourth_in(slots: &[f64]) -> ConvexMonotone4
+pub(crate) fn fourth_in(slots: &[f64]) -> ConvexMonotone4
     requires { ⌜ slotCount ≤ length (now slots) ⌝ }
     ensures { λ r. ⌜ r ≡ fourthIn (now (slots .entry)) ⌝ }
 {
@@ -145,7 +145,7 @@ fn fourth_in(slots: &[f64]) -> ConvexMonotone4
     }
 }
 
-fn fourth_min_in(split_region: bool, slots: &[f64]) -> ConvexMonotone4Min
+pub(crate) fn fourth_min_in(split_region: bool, slots: &[f64]) -> ConvexMonotone4Min
     requires { ⌜ slotCount ≤ length (now slots) ⌝ }
     ensures { λ r. ⌜ r ≡ fourthMinIn «split_region» (now (slots .entry)) ⌝ }
 {
