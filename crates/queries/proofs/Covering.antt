@@ -14,8 +14,9 @@ use Rattle.numbers.proofs.Every.{all-at}
 use Rattle.numbers.proofs.Ways.{never}
 use Rattle.section.specs.declared.section.Section.{Section}
 use Rattle.record.specs.Refusal.{first, andThen}
-use Rattle.record.specs.declared.reading.Found.{Found}
-use Rattle.record.specs.declared.reading.Found.the-variants as found
+use Rattle.reading.specs.Number.{answerIn}
+use Rattle.reading.specs.declared.reading.Found.{Found}
+use Rattle.reading.specs.declared.reading.Found.the-variants as found
 use Rattle.record.specs.declared.refusal.Refusal.{Refusal}
 use Rattle.record.specs.declared.refusal.Refusal.the-variants.{RecordNotLegal}
 use Rattle.record.specs.declared.refusal.Verdict.{Verdict}
@@ -27,7 +28,7 @@ use Rattle.query.specs.Query.{curveTests, pointTests, queryTests, placeOf, tail
 use Rattle.query.specs.declared.single.Covered.{Covered}
 use Rattle.query.proofs.Walk.{place-le}
 use Rattle.queries.specs.declared.many.Wanted.{Wanted}
-use Rattle.queries.specs.Many.{verdictOf, firstRefused, answerAt, figure, recordAt, isLegal, numberIn}
+use Rattle.queries.specs.Many.{verdictOf, firstRefused, answerAt, figure, recordAt, isLegal, numberIn, numberOrNought}
 
 -- ---- the first refusal of many
 
@@ -78,6 +79,11 @@ number-of-found : (w : Wanted) (q : Float) (f : Found) → toldNumber (ask (λ s
 number-of-found w q (found.Section s) = refl
 number-of-found w q found.Illegal = refl
 
+-- the number of a record, asked of its slots
+pub number-of-slots : (w : Wanted) (q : Float) (f : Found) → numberOrNought (answerIn (λ s. figure w s q) f) ≡ numberIn f w q
+number-of-slots w q (found.Section s) = refl
+number-of-slots w q found.Illegal = refl
+
 module _ (x : List Float) (curve : Curve) (tags : List ℕ) (slots : List Float) (q : Float) where
   -- every record legal, and so the one that answers
   pub legal-covering : 2 ≤ length x → allBelow (length x - 1) (λ i. isLegal (recordAt tags slots i)) ≡ true → isLegal (covering x curve tags slots q) ≡ true
@@ -121,7 +127,7 @@ module _ (x : List Float) (curve : Curve) (tags : List ℕ) (slots : List Float)
 
   -- and with that of the record at its place before it
   pub place-told : (w : Wanted) → first (curveTests x (length tags) (length slots)) ≡ Accepted → verdictOf (coveredAt x curve tags slots q) ≡ Accepted →
-      le (at x (length x - 1)) q ≡ false → (v : Float) (f : Found) (p : ℕ) → p ≡ placeOf x q → f ≡ recordAt tags slots p → v ≡ numberIn f w q →
+      le (at x (length x - 1)) q ≡ false → (v : Float) (p : ℕ) → p ≡ placeOf x q → v ≡ numberIn (recordAt tags slots p) w q →
       v ≡ answerAt (figure w) x curve tags slots q
-  place-told w h g b v f p i j e =
-      e ∙ ap (λ (k : Found). numberIn k w q) (j ∙ ap (recordAt tags slots) i ∙ sym (before-the-last b)) ∙ sym (told w h g)
+  place-told w h g b v p i e =
+      e ∙ ap (λ (k : Found). numberIn k w q) (ap (recordAt tags slots) i ∙ sym (before-the-last b)) ∙ sym (told w h g)

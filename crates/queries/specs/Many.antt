@@ -9,11 +9,13 @@ use Rattle.numbers.specs.Overlay.{overlay}
 use Rattle.numbers.specs.Words.{nought}
 use Rattle.section.specs.Section.{value, primitive}
 use Rattle.section.specs.declared.section.Section.{Section}
-use Rattle.record.specs.Reading.{readSection}
+use Rattle.reading.specs.Reading.{readSection}
 use Rattle.record.specs.Refusal.{Test, _⇒_, first, andThen}
 use Rattle.record.specs.Slots.{slotCount}
-use Rattle.record.specs.declared.reading.Found.{Found}
-use Rattle.record.specs.declared.reading.Found.the-variants as found
+use Rattle.reading.specs.declared.number.Answer.{Answer}
+use Rattle.reading.specs.declared.number.Answer.the-variants as answer
+use Rattle.reading.specs.declared.reading.Found.{Found}
+use Rattle.reading.specs.declared.reading.Found.the-variants as found
 use Rattle.record.specs.declared.refusal.Refusal.the-variants.{BufferTooShort}
 use Rattle.record.specs.declared.refusal.Verdict.{Verdict}
 use Rattle.record.specs.declared.refusal.Verdict.the-variants as verdict
@@ -68,6 +70,10 @@ isLegal found.Illegal = false
 abbrev pub numberIn : Found → Wanted → Float → Float
 numberIn (found.Section s) w q = figure w s q
 numberIn found.Illegal w q = nought
+
+abbrev pub numberOrNought : Answer → Float
+numberOrNought (answer.Number v) = v
+numberOrNought answer.Illegal = nought
 
 -- whether a query lies in section i: not below its first knot, and below its last, as far as these are inner knots
 abbrev pub covers : List Float → Float → ℕ → Bool

@@ -4,8 +4,11 @@ use crate::place::search;
 use curve::curve::Curve;
 use query::single::curve_verdict;
 use query::single::point_verdict;
-use record::reading::Found;
-use record::reading::read_section;
+use reading::number::Answer;
+use reading::number::primitive_in;
+use reading::number::value_in;
+use reading::reading::Found;
+use reading::reading::read_section;
 use record::refusal::Refusal;
 use record::refusal::Verdict;
 use record::slots::SLOTS;
@@ -17,12 +20,13 @@ ghost use Prim.Native.Nat.{ℕ, _+_, _-_, _*_, _≤_, _<_};
 ghost use lib.ListN.{length};
 ghost use Rattle.numbers.specs.Every.{allBelow};
 ghost use Rattle.section.specs.Section.{value, primitive};
+ghost use Rattle.reading.specs.Reading.{readSection};
 ghost use Rattle.record.specs.Refusal.{first};
 ghost use Rattle.record.specs.declared.refusal.Verdict.the-variants.{Accepted};
 ghost use Rattle.shape.specs.Making.{left};
 ghost use Rattle.table.specs.Table.{at};
 ghost use Rattle.query.specs.Query.{curveTests, tailSection, covering, coveredAt};
-ghost use Rattle.queries.specs.Many.{numberIn, verdictOf, manyTests, queriesVerdict, manyVerdict, answersAfter, figure, recordAt, isLegal};
+ghost use Rattle.queries.specs.Many.{numberIn, numberOrNought, verdictOf, manyTests, queriesVerdict, manyVerdict, answersAfter, figure, recordAt, isLegal};
 
 // What is asked at each point.
 pub enum Wanted {
@@ -138,14 +142,31 @@ fn queries_verdict(xs: &[f64], curve: Curve, tags: &[u16], slots: &[f64], qs: &[
     Verdict::Accepted
 }
 
-// What the record that was read answers.
-fn number_in(found: Found, wanted: Wanted, q: f64) -> f64
-    ensures { λ r. ⌜ r ≡ numberIn found wanted q ⌝ }
+// What a record answers, as one number: the queries that come here have one that is legal.
+fn number_in(wanted: Wanted, tag: u16, slots: &[f64], q: f64) -> f64
+    ensures { λ r. ⌜ r ≡ numberIn (readSection tag (now (slots .entry))) wanted q ⌝ }
 {
-    match found {
-        Found::Section(section) => figure(wanted, section, q),
-        Found::Illegal => 0.0,
+    match wanted {
+        Wanted::Price => number_or_nought(value_in(tag, slots, q)),
+        Wanted::Total => number_or_nought(primitive_in(tag, slots, q)),
     }
+}
+
+fn number_or_nought(answer: Answer) -> f64
+    ensures { λ r. ⌜ r ≡ numberOrNought answer ⌝ }
+{
+    match answer {
+        Answer::Number(number) => number,
+        Answer::Illegal => 0.0,
+    }
+}
+
+fn number_at(wanted: Wanted, tags: &[u16], slots: &[f64], i: usize, q: f64) -> f64
+    requires { ⌜ (i < length (now tags)) × (24 * i + 24 ≤ length (now slots)) × (i < 4096) ⌝ }
+    ensures { λ r. ⌜ r ≡ numberIn (recordAt (now (tags .entry)) (now (slots .entry)) i) wanted q ⌝ }
+{
+    let from = SLOTS * i;
+    number_in(wanted, tags[i], &slots[from..from + SLOTS], q)
 }
 
 // What the curve's own record answers, from the last knot on.
@@ -160,7 +181,7 @@ fn tail_number(curve: Curve, wanted: Wanted, q: f64) -> f64
     )
 }
 
-// Writes the answers of queries that were not refused. A record is read when the place changes, and not for each query.
+// Writes the answers of queries that were not refused, each found from the place of the one before it.
 fn fill(
     wanted: Wanted,
     xs: &[f64],
@@ -176,21 +197,14 @@ fn fill(
 {
     let end = xs[xs.len() - 1];
     let mut at: usize = 0;
-    let mut found = read_at(tags, slots, 0);
     for i in 0..qs.len() {
         let q = qs[i];
         if end <= q {
             out[i] = tail_number(curve, wanted, q);
             continue;
         }
-        let place = place_from(xs, q, at);
-        if place == at {
-            out[i] = number_in(found, wanted, q);
-            continue;
-        }
-        at = place;
-        found = read_at(tags, slots, place);
-        out[i] = number_in(found, wanted, q);
+        at = place_from(xs, q, at);
+        out[i] = number_at(wanted, tags, slots, at, q);
     }
 }
 

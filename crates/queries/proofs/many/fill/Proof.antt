@@ -1,28 +1,28 @@
--- `many::fill` meets its contract. The invariant: the first i answers are written, and `found` is the record at `place`.
+-- `many::fill` meets its contract. The invariant: the first i answers are written, and the place is one that has a record.
 use Prim.Native.Nat.{ℕ, _+_, _-_, _*_, _≤_, _<_}
 use native.Mathlib.Omega.{arith}
-use mathlib.Core.Path.{_≡_, refl, sym, ap, _∙_}
+use mathlib.Core.Path.{_≡_, refl, ap, _∙_}
 use borrow.Author.Needs.{needs}
 use lib.ListN.{length, length-set}
 use Rattle.numbers.specs.Overlay.{overlay}
 use Rattle.numbers.proofs.Overlay.{overlay-none, overlay-more}
 use Rattle.record.specs.declared.refusal.Verdict.the-variants.{Accepted}
 use Rattle.table.specs.Table.{at}
-use Rattle.query.specs.Query.{coveredAt, placeOf}
+use Rattle.query.specs.Query.{coveredAt}
 use Rattle.query.proofs.Answers.{Reaches, reached}
 use Rattle.query.proofs.Walk.{place-le}
-use Rattle.queries.specs.Many.{verdictOf, answerAt, figure, recordAt}
+use Rattle.queries.specs.Many.{verdictOf, answerAt, figure}
 use Rattle.queries.proofs.Covering.{all-accepted, tail-told, place-told}
 use Rattle.queries.proofs.many.fill.Statement.{statement}
 use Rattle.queries.proofs.many.fill.Tie as tie
 
 abbrev Inv-loop : tie.InvT-loop
-Inv-loop wanted xs curve tags slots qs out₀ end place₀ found₀ i₀ i-end out place found i =
-    (i ≤ i-end) × (i-end ≡ length qs) × (place + 1 < length xs) × (length out ≡ length out₀) × (found ≡ recordAt tags slots place)
+Inv-loop wanted xs curve tags slots qs out₀ end place₀ i₀ i-end out place i =
+    (i ≤ i-end) × (i-end ≡ length qs) × (place + 1 < length xs) × (length out ≡ length out₀)
     × (out ≡ overlay 0 i (λ k. answerAt (figure wanted) xs curve tags slots (at qs k)) out₀)
 
 abbrev μ-loop : tie.MeasureT-loop
-μ-loop wanted xs curve tags slots qs out₀ end place₀ found₀ i₀ i-end out place found i = i-end - i
+μ-loop wanted xs curve tags slots qs out₀ end place₀ i₀ i-end out place i = i-end - i
 
 abbrev Start : Type 0
 Start = tie.Start Inv-loop μ-loop
@@ -35,68 +35,51 @@ fine : (c : Start) (k : ℕ) → let a = c .args in k < length (a .qs .now) → 
 fine c k l = all-accepted _ _ (c .pre .1 .0) k l
 
 loop-holds : tie.Need-loop-holds Inv-loop μ-loop
-loop-holds c = (search needs, search needs, omega (arith, fits (c .before .before .before .before .before .before .before) .low), refl, c .read-at .ensures, overlay-none 0 _ _)
+loop-holds c = (search needs, search needs, omega (arith, fits (c .before .before .before .before .before .before) .low), refl, overlay-none 0 _ _)
 
 loop-again : tie.Need-loop-again Inv-loop μ-loop
 loop-again c =
     let l = c .before .before .before .before .loop in
-    let a = c .before .before .before .before .before .before .before .before .before .before .before .before .args in
+    let a = c .before .before .before .before .before .before .before .before .before .before .before .args in
     let h : l .i < length (a .qs .now) = omega (arith, l .inv .1, c .before .before .before .loop-test .taken) in (
       omega (arith, c .before .before .before .loop-test .taken),
       l .inv .1,
       l .inv .2,
       simp length-set (l .inv .3),
-      l .inv .4,
-      overlay-more 0 (l .i) _ _ _ _ _ (l .inv .5) (omega arith)
-          (tail-told (a .xs .now) (a .curve) (a .tags .now) (a .slots .now) (at (a .qs .now) (l .i)) (a .wanted) (c .before .before .before .before .before .before .before .before .before .before .before .before .pre .0) (fine (c .before .before .before .before .before .before .before .before .before .before .before .before) (l .i) h) (c .before .if1 .taken) _ (c .tail-number .ensures)),
+      overlay-more 0 (l .i) _ _ _ _ _ (l .inv .4) (omega arith)
+          (tail-told (a .xs .now) (a .curve) (a .tags .now) (a .slots .now) (at (a .qs .now) (l .i)) (a .wanted) (c .before .before .before .before .before .before .before .before .before .before .before .pre .0) (fine (c .before .before .before .before .before .before .before .before .before .before .before) (l .i) h) (c .before .if1 .taken) _ (c .tail-number .ensures)),
     )
 
 loop-again-2 : tie.Need-loop-again-2 Inv-loop μ-loop
 loop-again-2 c =
-    let l = c .before .before .before .before .before .before .loop in
-    let a = c .before .before .before .before .before .before .before .before .before .before .before .before .before .before .args in
-    let h : l .i < length (a .qs .now) = omega (arith, l .inv .1, c .before .before .before .before .before .loop-test .taken) in (
-      omega (arith, c .before .before .before .before .before .loop-test .taken),
+    let l = c .before .before .before .before .before .loop in
+    let a = c .before .before .before .before .before .before .before .before .before .before .before .before .args in
+    let h : l .i < length (a .qs .now) = omega (arith, l .inv .1, c .before .before .before .before .loop-test .taken) in (
+      omega (arith, c .before .before .before .before .loop-test .taken),
       l .inv .1,
-      l .inv .2,
+      omega (arith, fits (c .before .before .before .before .before .before .before .before .before .before .before .before) .low, place-le (a .xs .now) (at (a .qs .now) (l .i)), c .before .place-from .ensures),
       simp length-set (l .inv .3),
-      l .inv .4,
-      overlay-more 0 (l .i) _ _ _ _ _ (l .inv .5) (omega arith)
-          (place-told (a .xs .now) (a .curve) (a .tags .now) (a .slots .now) (at (a .qs .now) (l .i)) (a .wanted) (c .before .before .before .before .before .before .before .before .before .before .before .before .before .before .pre .0) (fine (c .before .before .before .before .before .before .before .before .before .before .before .before .before .before) (l .i) h) (c .before .before .before .if1 .left)
-          _ _ _ (sym (c .before .if2 .taken) ∙ c .before .before .place-from .ensures) (l .inv .4) (c .number-in .ensures)),
-    )
-
-loop-again-3 : tie.Need-loop-again-3 Inv-loop μ-loop
-loop-again-3 c =
-    let l = c .before .before .before .before .before .before .before .loop in
-    let a = c .before .before .before .before .before .before .before .before .before .before .before .before .before .before .before .args in
-    let h : l .i < length (a .qs .now) = omega (arith, l .inv .1, c .before .before .before .before .before .before .loop-test .taken) in (
-      omega (arith, c .before .before .before .before .before .before .loop-test .taken),
-      l .inv .1,
-      omega (arith, fits (c .before .before .before .before .before .before .before .before .before .before .before .before .before .before .before) .low, place-le (a .xs .now) (at (a .qs .now) (l .i)), c .before .before .before .place-from .ensures),
-      simp length-set (l .inv .3),
-      c .before .read-at2 .ensures,
-      overlay-more 0 (l .i) _ _ _ _ _ (l .inv .5) (omega arith)
-          (place-told (a .xs .now) (a .curve) (a .tags .now) (a .slots .now) (at (a .qs .now) (l .i)) (a .wanted) (c .before .before .before .before .before .before .before .before .before .before .before .before .before .before .before .pre .0) (fine (c .before .before .before .before .before .before .before .before .before .before .before .before .before .before .before) (l .i) h) (c .before .before .before .before .if1 .left)
-          _ _ _ (c .before .before .before .place-from .ensures) (c .before .read-at2 .ensures) (c .number-in2 .ensures)),
+      overlay-more 0 (l .i) _ _ _ _ _ (l .inv .4) (omega arith)
+          (place-told (a .xs .now) (a .curve) (a .tags .now) (a .slots .now) (at (a .qs .now) (l .i)) (a .wanted) (c .before .before .before .before .before .before .before .before .before .before .before .before .pre .0) (fine (c .before .before .before .before .before .before .before .before .before .before .before .before) (l .i) h) (c .before .before .if1 .left)
+          _ _ (c .before .place-from .ensures) (c .number-at .ensures)),
     )
 
 -- the place that was found has a record
-read-at-requires-2 : tie.Need-read-at-requires-2 Inv-loop μ-loop
-read-at-requires-2 c κs =
-    let l = c .before .before .before .before .before .loop in
-    let a = c .before .before .before .before .before .before .before .before .before .before .before .before .before .args in
-    let f = fits (c .before .before .before .before .before .before .before .before .before .before .before .before .before) in
+number-at-requires : tie.Need-number-at-requires Inv-loop μ-loop
+number-at-requires c κs =
+    let l = c .before .before .before .before .loop in
+    let a = c .before .before .before .before .before .before .before .before .before .before .before .args in
+    let f = fits (c .before .before .before .before .before .before .before .before .before .before .before) in
     let p = place-le (a .xs .now) (at (a .qs .now) (l .i)) in
-    let e = c .before .place-from .ensures in
+    let e = c .place-from .ensures in
     (omega (arith, f .low, f .in-tags, p, e), omega (arith, f .low, f .in-slots, p, e), omega (arith, f .low, f .high, p, e))
 
 returns : tie.Need-returns Inv-loop μ-loop
 returns c =
     let l = c .before .loop in
-    let a = c .before .before .before .before .before .before .before .before .before .args in
+    let a = c .before .before .before .before .before .before .before .before .args in
     let e : l .i ≡ length (a .qs .now) = omega (arith, l .inv .0, l .inv .1, c .loop-test .left) in
-    l .inv .5 ∙ ap (λ (n : ℕ). overlay 0 n (λ k. answerAt (figure (a .wanted)) (a .xs .now) (a .curve) (a .tags .now) (a .slots .now) (at (a .qs .now) k)) (a .out .now)) e
+    l .inv .4 ∙ ap (λ (n : ℕ). overlay 0 n (λ k. answerAt (figure (a .wanted)) (a .xs .now) (a .curve) (a .tags .now) (a .slots .now) (at (a .qs .now) k)) (a .out .now)) e
 
 pub fill-spec : {M : Type 1} → statement M
 fill-spec =
@@ -107,29 +90,21 @@ fill-spec =
     (λ c. omega (arith, fits (c .before .before .before .before .before) .low))
     (λ c. omega (arith, fits (c .before .before .before .before .before) .low, fits (c .before .before .before .before .before) .high))
     (λ c. omega (arith, fits (c .before .before .before .before .before .before) .low))
-    (λ c κs. let f = fits (c .before .before .before .before .before .before) in (omega (arith, f .low, f .in-tags), omega (arith, f .low, f .in-slots), omega arith))
     loop-holds
     (λ c. search needs)
     (λ c. search needs)
     (λ c κs. search needs)
     (λ c. search needs)
-    (λ c. let l = c .before .before .before .before .loop in omega (arith, l .inv .1, l .inv .3, c .before .before .before .loop-test .taken, c .before .before .before .before .before .before .before .before .before .before .before .before .pre .1 .1))
+    (λ c. let l = c .before .before .before .before .loop in omega (arith, l .inv .1, l .inv .3, c .before .before .before .loop-test .taken, c .before .before .before .before .before .before .before .before .before .before .before .pre .1 .1))
     (λ c. search needs)
     (λ c. omega (arith, c .before .before .before .loop-test .taken))
     loop-again
-    (λ c κs. let l = c .before .before .before .loop in (l .inv .2, fits (c .before .before .before .before .before .before .before .before .before .before .before) .high, fits (c .before .before .before .before .before .before .before .before .before .before .before) .up))
-    (λ c κs. search needs)
+    (λ c κs. let l = c .before .before .before .loop in (l .inv .2, fits (c .before .before .before .before .before .before .before .before .before .before) .high, fits (c .before .before .before .before .before .before .before .before .before .before) .up))
+    number-at-requires
     (λ c. search needs)
-    (λ c. let l = c .before .before .before .before .before .before .loop in omega (arith, l .inv .1, l .inv .3, c .before .before .before .before .before .loop-test .taken, c .before .before .before .before .before .before .before .before .before .before .before .before .before .before .pre .1 .1))
+    (λ c. let l = c .before .before .before .before .before .loop in omega (arith, l .inv .1, l .inv .3, c .before .before .before .before .loop-test .taken, c .before .before .before .before .before .before .before .before .before .before .before .before .pre .1 .1))
     (λ c. search needs)
-    (λ c. omega (arith, c .before .before .before .before .before .loop-test .taken))
+    (λ c. omega (arith, c .before .before .before .before .loop-test .taken))
     loop-again-2
-    read-at-requires-2
-    (λ c κs. search needs)
-    (λ c. search needs)
-    (λ c. let l = c .before .before .before .before .before .before .before .loop in omega (arith, l .inv .1, l .inv .3, c .before .before .before .before .before .before .loop-test .taken, c .before .before .before .before .before .before .before .before .before .before .before .before .before .before .before .pre .1 .1))
-    (λ c. search needs)
-    (λ c. omega (arith, c .before .before .before .before .before .before .loop-test .taken))
-    loop-again-3
     (λ c. c .before .loop .inv .3)
     returns)
