@@ -1,6 +1,10 @@
 -- A record's number, worked out from its parts' numbers, is that of the section that it holds.
+use Prim.Native.Nat.{ℕ, _/_, _%_, _≤_, _<_}
 use mathlib.Core.Path.{_≡_, refl, ap}
+use mathlib.Core.List.{List}
 use lib.Ieee.{Float}
+use lib.ListN.{length}
+use borrow.Author.Tests.{lt-ltb, le-ltb, eq-eqb, ne-eqb}
 use Rattle.numbers.specs.Words.{_⊕_, _⊖_, _⊗_, one}
 use Rattle.section.specs.declared.quadratic_part.QuadraticPart.{QuadraticPart}
 use Rattle.section.specs.declared.quadratic_part.QuadraticPart.the-variants as quadratic
@@ -17,7 +21,9 @@ use Rattle.reading.specs.declared.reading.QuadraticFound.the-variants as
 use Rattle.reading.specs.declared.reading.OtherFound.{OtherFound}
 use Rattle.reading.specs.declared.reading.OtherFound.the-variants as maybeOther
 use Rattle.reading.specs.declared.number.Answer.the-variants as answer
-use Rattle.reading.specs.Reading.{joined}
+use Rattle.record.specs.Slots.{slotCount}
+use Rattle.record.specs.Tag.{spare}
+use Rattle.reading.specs.Reading.{slot, quadraticFrom, otherFrom, joined, readSection}
 use Rattle.reading.specs.Number.{answerIn, quadraticNumber, otherNumber, together}
 
 -- a combination's number is its parts' numbers, weighted
@@ -61,3 +67,17 @@ module _ (f : Section → Float) (weighs : Weighs f) (w : Float) where
   together-answers (maybeQuadratic.Part p) (maybeOther.Constant s) = refl
   together-answers (maybeQuadratic.Part p) (maybeOther.Gradient s) = refl
   together-answers (maybeQuadratic.Part p) (maybeOther.Convex c) = ap answer.Number (weighs p c w)
+
+-- the whole record: too few slots, a spare bit, or the two parts that its codes name
+module _ (f : Section → Float) (tag : ℕ) (s : List Float) where
+  pub short-answers : length s < slotCount → answer.Illegal ≡ answerIn f (readSection tag s)
+  unfolding readSection
+  short-answers h = simp (lt-ltb _ _ h)
+
+  pub spare-answers : slotCount ≤ length s → (spare tag ≡ 0 → ⊥) → answer.Illegal ≡ answerIn f (readSection tag s)
+  unfolding readSection
+  spare-answers h k = simp (le-ltb _ _ h, ne-eqb _ _ k)
+
+  pub parts-answer : Weighs f → slotCount ≤ length s → spare tag ≡ 0 → together (slot s 0) (quadraticNumber f (quadraticFrom (tag / 0x1000) s)) (otherNumber f (otherFrom (tag / 0x80 % 32) s)) ≡ answerIn f (readSection tag s)
+  unfolding readSection
+  parts-answer weighs h k = simp (le-ltb _ _ h, eq-eqb _ _ k) (together-answers f weighs (slot s 0) _ _)
