@@ -6,16 +6,18 @@ mod regions;
 
 use crate::convex_part::convex_part;
 use crate::period::Period;
+use crate::quadratic_part::made_alone;
+use crate::quadratic_part::min_kind;
 use crate::quadratic_part::quadratic_part;
 use crate::regions::in_first;
 use crate::regions::is_flat;
 use section::combination::Combination;
 use section::constant_grad::ConstantGrad;
-use section::quadratic_part::QuadraticPart;
 use section::section::Section;
 use table::method::ConvexMonotone;
 ghost use mathlib.Core.Path.{_≡_};
-ghost use Rattle.choice.specs.Choice.{sectionOf, shaped, firstRegion, mixed};
+ghost use Rattle.choice.specs.Choice.{sectionOf, shaped, mixed};
+ghost use Rattle.choice.specs.QuadraticPart.{firstKind};
 
 // Any settings are taken. Those outside [0, 1] a build refuses beforehand, so for them the original has no answer to match: a
 // quadraticity below 0.0 counts as 0.0, and one above 1.0 or a NaN as 1.0.
@@ -41,22 +43,22 @@ fn shaped(method: ConvexMonotone, period: Period, g_prev: f64, g_next: f64) -> S
 {
     if method.quadraticity < 1.0 {
         if in_first(g_prev, g_next) {
-            return first_region(method, period, g_prev, g_next).alone();
+            return made_alone(period, first_kind(method, g_prev, g_next));
         }
         return mixed(method, period, g_prev, g_next);
     }
-    quadratic_part(method, period, g_prev, g_next).alone()
+    made_alone(period, min_kind(method, g_prev, g_next))
 }
 
 // In the first region the quadratic part is all of the section. Step 2 has picked its kind, unless there was none to make: then
 // positivity picks it by itself.
-fn first_region(method: ConvexMonotone, period: Period, g_prev: f64, g_next: f64) -> QuadraticPart
-    ensures { λ r. ⌜ r ≡ firstRegion method period «g_prev» «g_next» ⌝ }
+fn first_kind(method: ConvexMonotone, g_prev: f64, g_next: f64) -> bool
+    ensures { λ r. ⌜ r ≡ firstKind method «g_prev» «g_next» ⌝ }
 {
     if method.quadraticity > 0.0 {
-        return quadratic_part(method, period, g_prev, g_next);
+        return min_kind(method, g_prev, g_next);
     }
-    quadratic_part::made(period, method.force_positive)
+    method.force_positive
 }
 
 // Outside the first region. A single part keeps its own numbers: a weight of 0.0 for the other would not do the same to a NaN.

@@ -1,44 +1,49 @@
 -- `shaped` meets its contract: each return by the tests that led to it.
+use mathlib.Core.Bool.{Bool, true, false, cond}
+use mathlib.Core.Path.{_≡_, refl, ap, _∙_}
+use lib.Ieee.{Float, lt}
+use Rattle.numbers.specs.Words.{nought}
 use borrow.Author.Needs.{needs}
-use Rattle.choice.specs.Choice.{shaped}
+use Rattle.section.specs.declared.section.Section.{Section}
+use Rattle.section.specs.QuadraticPart as quadratic
+use Rattle.table.specs.declared.method.ConvexMonotone.{ConvexMonotone}
+use Rattle.choice.specs.declared.period.Period.{Period}
+use Rattle.choice.specs.QuadraticPart.{made, minKind, firstKind}
+use Rattle.choice.specs.Choice.{shaped, firstRegion}
 use Rattle.choice.proofs.shaped.Statement.{statement}
 use Rattle.choice.proofs.shaped.Tie as tie
 
-in-first-requires : tie.Need-in-first-requires
-in-first-requires c κs = search needs
+-- one of two parts is the part of one of two kinds
+either-made : (period : Period) (b m n : Bool) → made period (cond b m n) ≡ cond b (made period m) (made period n)
+either-made period true m n = refl
+either-made period false m n = refl
 
-first-region-requires : tie.Need-first-region-requires
-first-region-requires c κs = search needs
-
-alone-requires : tie.Need-alone-requires
-alone-requires c κs = search needs
+first-made : (method : ConvexMonotone) (period : Period) (P N : Float) (k : Bool) (s : Section) → k ≡ firstKind method P N → s ≡ quadratic.alone (made period k) →
+    s ≡ quadratic.alone (firstRegion method period P N)
+unfolding firstKind firstRegion
+first-made method period P N k s e f = f ∙ ap (λ (j : Bool). quadratic.alone (made period j)) e ∙ ap quadratic.alone (either-made period (lt nought (method .quadraticity)) (minKind method P N) (method .«force_positive»))
 
 returns : tie.Need-returns
 unfolding shaped
 returns c =
-    rw (
-      c .before .before .before .before .if1 .taken,
-      ← c .before .before .before .in-first .ensures,
-      c .before .before .if2 .taken,
-      ← c .before .first-region .ensures,
-    ) (c .alone .ensures)
-
-mixed-requires : tie.Need-mixed-requires
-mixed-requires c κs = search needs
+    rw (c .before .before .before .before .if1 .taken, ← c .before .before .before .in-first .ensures, c .before .before .if2 .taken)
+    (first-made _ _ _ _ _ _ (c .before .first-kind .ensures) (c .made-alone .ensures))
 
 returns-2 : tie.Need-returns-2
 unfolding shaped
 returns-2 c = rw (c .before .before .before .if1 .taken, ← c .before .before .in-first .ensures, c .before .if2 .left) (c .mixed .ensures)
 
-quadratic-part-requires : tie.Need-quadratic-part-requires
-quadratic-part-requires c κs = search needs
-
-alone-requires-2 : tie.Need-alone-requires-2
-alone-requires-2 c κs = search needs
-
 returns-3 : tie.Need-returns-3
 unfolding shaped
-returns-3 c = rw (c .before .before .if1 .left, ← c .before .quadratic-part .ensures) (c .alone2 .ensures)
+returns-3 c = rw (c .before .before .if1 .left, ← c .before .min-kind .ensures) (c .made-alone2 .ensures)
 
 pub shaped-spec : {M : Type 1} → statement M
-shaped-spec = tie.close (tie.spec in-first-requires first-region-requires alone-requires returns mixed-requires returns-2 quadratic-part-requires alone-requires-2 returns-3)
+shaped-spec =
+    tie.close
+    (tie.spec
+    (λ c κs. search needs) (λ c κs. search needs) (λ c κs. search needs)
+    returns
+    (λ c κs. search needs)
+    returns-2
+    (λ c κs. search needs) (λ c κs. search needs)
+    returns-3)
