@@ -80,20 +80,21 @@ covers-here x q i up l h =
     (or-some (leb (length x - 2) i) (lt q (at x (i + 1))) (both .1)) in
     omega (arith, low, high)
 
--- what stays true of `count` places from `i` on when half of them are left: b tells that the query is below the knot between
-abbrev pub Halved : List Float → Float → ℕ → ℕ → Bool → Type 0
-Halved x q i count b =
-    (i + count / 2 * boolByte (not b) ≤ placeOf x q) × (placeOf x q < i + count / 2 * boolByte (not b) + (count - count / 2))
-    × (i + count / 2 * boolByte (not b) + (count - count / 2) + 1 ≤ length x)
+-- what a stride keeps: it is not past the place, and either it has come as far as it has looked or the place is less than a step on
+abbrev pub Strode : List Float → Float → ℕ → ℕ → ℕ → Type 0
+Strode x q step i probe = (i ≤ placeOf x q) × ((i + step ≡ probe) ⊎ (placeOf x q < i + step))
 
-module _ (x : List Float) (q : Float) (up : rising x ≡ true) (i count : ℕ) (low : i ≤ placeOf x q) (high : placeOf x q < i + count) (fit : i + count + 1 ≤ length x) (more : 1 < count) where
-  step : (b : Bool) → lt q (at x (i + count / 2)) ≡ b → Halved x q i count b
-  step true h =
-      let below-it = below x q (i + count / 2) (omega (arith, more)) h in
-      (omega (arith, low), omega (arith, below-it, more), omega (arith, fit, more))
-  step false h =
-      let from-it = not-below x q up (i + count / 2) (omega (arith, fit, more)) h in
-      (omega (arith, from-it), omega (arith, high, more), omega (arith, fit, more))
+module _ (x : List Float) (q : Float) (up : rising x ≡ true) (step i probe : ℕ) (inner : probe ≤ length x - 2) (some : 0 < probe) (reach : i + step ≤ probe) (before : Strode x q step i probe) where
+  look : (b : Bool) → lt q (at x probe) ≡ b → Strode x q step (i + step * boolByte (not b)) (probe + step) × (i + step * boolByte (not b) + step ≤ probe + step)
+  look true h =
+      let l = below x q probe some h in
+      ((omega (arith, before .0), inr (⊎-elim (λ (e : i + step ≡ probe). omega (arith, e, l)) (λ (m : placeOf x q < i + step). omega (arith, m)) (before .1))), omega (arith, reach))
+  look false h =
+      let l = not-below x q up probe inner h in
+      ⊎-elim
+      (λ (e : i + step ≡ probe). ((omega (arith, e, l), inl (omega (arith, e))), omega (arith, e)))
+      (λ (m : placeOf x q < i + step). absurd (omega (arith, m, l, reach)))
+      (before .1)
 
-  pub halved : Halved x q i count (lt q (at x (i + count / 2)))
-  halved = step (lt q (at x (i + count / 2))) refl
+  pub looked : Strode x q step (i + step * boolByte (not (lt q (at x probe)))) (probe + step) × (i + step * boolByte (not (lt q (at x probe))) + step ≤ probe + step)
+  looked = look (lt q (at x probe)) refl

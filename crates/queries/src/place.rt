@@ -1,6 +1,7 @@
 // Which section a query lies in, without a walk over the knots.
 ghost use mathlib.Core.Path.{_≡_};
 ghost use mathlib.Core.Bool.{true};
+ghost use mathlib.Core.Logic.{_⊎_};
 ghost use Prim.Native.Nat.{_+_, _≤_, _<_};
 ghost use lib.ListN.{length};
 ghost use Rattle.table.specs.Check.{rising};
@@ -23,20 +24,40 @@ fn covers(xs: &[f64], q: f64, i: usize) -> bool
     q < xs[i + 1]
 }
 
-// The place that the walk finds, by halves: it is one of `count` places from `at` on. The test goes into the sum as 0 or 1: queries in no order would mislead
-// a branch every other time, and that costs more than all the rest.
+// The smaller of two.
+fn least(a: usize, b: usize) -> usize
+    ensures { λ r. ⌜ (r ≤ a) × (r ≤ b) × ((r ≡ a) ⊎ (r ≡ b)) ⌝ }
+{
+    if a < b {
+        return a;
+    }
+    b
+}
+
+// From `from` on in steps, to less than a step before the place, which lies before `end`. No test decides where the code goes on, each goes into the sum as
+// 0 or 1: queries in no order would mislead a branch every other time, and that costs more than the comparisons that are not needed.
+fn stride(xs: &[f64], q: f64, from: usize, end: usize, step: usize) -> usize
+    requires { ⌜ (from ≤ placeOf (now xs) q) × (placeOf (now xs) q < end) × (end + 1 ≤ length (now xs)) × (length (now xs) ≤ 4096) × (1 ≤ step) × (step ≤ 256) × (rising (now xs) ≡ true) ⌝ }
+    ensures { λ r. ⌜ (r ≤ placeOf (now (xs .entry)) q) × (placeOf (now (xs .entry)) q < r + step) ⌝ }
+{
+    let mut at = from;
+    let mut probe = from + step;
+    while probe < end {
+        at = at + step * (!(q < xs[probe])) as usize;
+        probe = probe + step;
+    }
+    at
+}
+
+// The place that the walk finds, in three strides of at most 15 steps: of 256, of 16 and of 1.
 pub(crate) fn search(xs: &[f64], q: f64) -> usize
     requires { ⌜ (2 ≤ length (now xs)) × (length (now xs) ≤ 4096) × (rising (now xs) ≡ true) ⌝ }
     ensures { λ r. ⌜ r ≡ placeOf (now (xs .entry)) q ⌝ }
 {
-    let mut at: usize = 0;
-    let mut count = xs.len() - 1;
-    while 1 < count {
-        let half = count / 2;
-        at = at + half * (!(q < xs[at + half])) as usize;
-        count = count - half;
-    }
-    at
+    let end = xs.len() - 1;
+    let far = stride(xs, q, 0, end, 256);
+    let near = stride(xs, q, far, least(far + 256, end), 16);
+    stride(xs, q, near, least(near + 16, end), 1)
 }
 
 // The same, where it is likely to be `near` or the place after: queries that rise take a step each.

@@ -1,54 +1,38 @@
--- `place::search` meets its contract. The invariant: the place is one of `count` places from `at` on.
-use Prim.Native.Nat.{_+_, _/_, _≤_, _<_}
+-- `place::search` meets its contract: the last stride leaves less than one step.
+use Prim.Native.Nat.{ℕ, _+_, _<_}
 use native.Mathlib.Omega.{arith}
-use mathlib.Core.Bool.{true}
+use mathlib.Core.Logic.{_⊎_, ⊎-elim}
 use mathlib.Core.Path.{_≡_}
 use borrow.Author.Needs.{needs}
-use lib.Ieee.{lt}
-use lib.ListN.{length}
-use Rattle.table.specs.Table.{at}
-use Rattle.table.specs.Check.{rising}
-use Rattle.query.specs.Query.{placeOf}
 use Rattle.query.proofs.Walk.{place-le}
-use Rattle.queries.proofs.Sides.{Halved, halved}
 use Rattle.queries.proofs.place.search.Statement.{statement}
 use Rattle.queries.proofs.place.search.Tie as tie
 
-abbrev Inv-loop : tie.InvT-loop
-Inv-loop xs q at₀ count₀ at count = (at ≤ placeOf xs q) × (placeOf xs q < at + count) × (at + count + 1 ≤ length xs) × (length xs ≤ 4096) × (rising xs ≡ true)
-
-abbrev μ-loop : tie.MeasureT-loop
-μ-loop xs q at₀ count₀ at count = count
-
-loop-holds : tie.Need-loop-holds Inv-loop μ-loop
-loop-holds c =
-    let a = c .args in
-    (omega arith, omega (arith, c .pre, place-le (a .xs .now) (a .q)), omega (arith, c .pre), c .pre .1, c .pre .2)
-
--- after a turn
-turned : (c : tie.After-shared-slice-known Inv-loop μ-loop) →
-    let l = c .before .before .loop in
-    let a = c .before .before .before .args in
-    Halved (a .xs .now) (a .q) (l .at) (l .count) (lt (a .q) (at (a .xs .now) (l .at + l .count / 2)))
-turned c =
-    let l = c .before .before .loop in
-    let a = c .before .before .before .args in
-    halved (a .xs .now) (a .q) (l .inv .4) (l .at) (l .count) (l .inv .0) (l .inv .1) (l .inv .2) (c .before .loop-test .taken)
-
-loop-again : tie.Need-loop-again Inv-loop μ-loop
-loop-again c = let l = c .before .before .loop in let t = turned c in (t .0, t .1, t .2, l .inv .3, l .inv .4)
+-- before both, and so before whichever is the smaller
+before : (p a b r : ℕ) → p < a → p < b → (r ≡ a) ⊎ (r ≡ b) → p < r
+before p a b r l m w = ⊎-elim (λ (e : r ≡ a). omega (arith, e, l)) (λ (e : r ≡ b). omega (arith, e, m)) w
 
 pub search-spec : {M : Type 1} → statement M
 search-spec =
     tie.close
     (tie.spec
-    Inv-loop
-    μ-loop
     (λ c. search needs)
-    loop-holds
-    (λ c. search needs) (λ c. search needs) (λ c. search needs) (λ c. search needs)
-    (λ c. let l = c .before .before .loop in omega (arith, turned c, l .inv .3))
-    (λ c. let l = c .before .before .loop in omega (arith, turned c, l .inv .3))
-    (λ c. search needs) (λ c. search needs)
-    loop-again
-    (λ c. omega (arith, c .before .loop .inv, c .loop-test .left)))
+    (λ c κs.
+    let a = c .before .args in
+    let p = c .before .pre in
+    (omega arith, omega (arith, p .0, place-le (a .xs .now) (a .q)), omega (arith, p .0), p .1, omega arith, omega arith, p .2))
+    (λ c. let p = c .before .before .pre in omega (arith, p .1, c .stride .ensures .0, place-le (c .before .before .args .xs .now) (c .before .before .args .q)))
+    (λ c κs. search needs)
+    (λ c κs.
+    let a = c .before .before .before .args in
+    let p = c .before .before .before .pre in
+    let r = c .least .ensures in
+    (c .before .stride .ensures .0, before _ _ _ _ (c .before .stride .ensures .1) (omega (arith, p .0, place-le (a .xs .now) (a .q))) (r .2), omega (arith, p .0, r .1), p .1, omega arith, omega arith, p .2))
+    (λ c. let p = c .before .before .before .before .pre in omega (arith, p .1, c .stride2 .ensures .0, place-le (c .before .before .before .before .args .xs .now) (c .before .before .before .before .args .q)))
+    (λ c κs. search needs)
+    (λ c κs.
+    let a = c .before .before .before .before .before .args in
+    let p = c .before .before .before .before .before .pre in
+    let r = c .least2 .ensures in
+    (c .before .stride2 .ensures .0, before _ _ _ _ (c .before .stride2 .ensures .1) (omega (arith, p .0, place-le (a .xs .now) (a .q))) (r .2), omega (arith, p .0, r .1), p .1, omega arith, omega arith, p .2))
+    (λ c. omega (arith, c .stride3 .ensures .0, c .stride3 .ensures .1)))
