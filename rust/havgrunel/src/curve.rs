@@ -134,12 +134,26 @@ impl ConvexMonotoneInterpolation {
 
     /// The price at each of `xs`, into the first entries of `answers`; all or nothing ([`lent::values`]).
     pub fn values(&self, xs: &[f64], answers: &mut [f64]) -> Result<(), Refusal> {
-        lent::values(&self.knots, &self.curve, &self.tags, &self.slots, xs, answers)
+        lent::values(
+            &self.knots,
+            &self.curve,
+            &self.tags,
+            &self.slots,
+            xs,
+            answers,
+        )
     }
 
     /// The total of all prices up to each of `xs`, in the same way.
     pub fn primitives(&self, xs: &[f64], answers: &mut [f64]) -> Result<(), Refusal> {
-        lent::primitives(&self.knots, &self.curve, &self.tags, &self.slots, xs, answers)
+        lent::primitives(
+            &self.knots,
+            &self.curve,
+            &self.tags,
+            &self.slots,
+            xs,
+            answers,
+        )
     }
 
     /// The method has no derivative, and this is always refused.
