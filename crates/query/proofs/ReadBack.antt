@@ -3,7 +3,7 @@ use Prim.Native.Nat.{ℕ, _+_, _-_, _*_, _/_, _%_, _≤_, _<_}
 use native.Mathlib.Omega.{arith}
 use native.Mathlib.Nat.{zero-add}
 use mathlib.Core.Bool.{Bool, true, false, cond, _||_}
-use mathlib.Core.List.{List, [], _∷_}
+use mathlib.Core.List.{List}
 use mathlib.Core.Path.{_≡_, refl, sym, ap, _∙_}
 use lib.Dec.{ltb}
 use lib.Ieee.{Float, nan, le, ne}
@@ -19,13 +19,13 @@ use Rattle.section.specs.declared.convex_monotone_part.ConvexMonotonePart.the-v
 use Rattle.section.specs.declared.section.Section.{Section}
 use Rattle.section.specs.declared.section.Section.the-variants as kind
 use Rattle.reading.specs.Reading.{readSection}
-use Rattle.record.specs.Refusal.{Test, first}
+use Rattle.record.specs.Refusal.{first}
 use Rattle.record.specs.Slots.{slotCount, slotsOf, quadraticSlots, convexSlots, layout}
 use Rattle.record.specs.Tag.{tagOf}
 use Rattle.reading.specs.declared.reading.Found.{Found}
 use Rattle.reading.specs.declared.reading.Found.the-variants as found
 use Rattle.record.specs.declared.refusal.Verdict.the-variants as verdict
-use Rattle.record.proofs.First.{Passed, passed}
+use Rattle.record.proofs.First.{passed, accepted}
 use Rattle.reading.proofs.RoundTrip.{round-trip}
 use Rattle.table.specs.Table.{at}
 use Rattle.table.specs.declared.method.ConvexMonotone.{ConvexMonotone}
@@ -82,11 +82,6 @@ part-is big small p n e r h =
 either-found : (b : Bool) (s t : Section) (f : Found) → f ≡ found.Section t → cond b (found.Section s) f ≡ found.Section (cond b s t)
 either-found true s t f e = refl
 either-found false s t f e = e
-
--- what passed every test is accepted
-accepted : (ts : List Test) → Passed ts → first ts ≡ verdict.Accepted
-accepted [] p = refl
-accepted (t ∷ ts) p = rw (p .0) (accepted ts (p .1))
 
 -- an accepted table passes what a query asks of it, if the buffers keep their lengths
 pub query-accepted : (x y : List Float) (method : ConvexMonotone) (seam : Seam) (nodes tags slots newTags newSlots : ℕ) (curve : Curve) (q : Float) →
