@@ -1,0 +1,200 @@
+//! What the archive holds, declared as c/havgrunel.h does; the single kinds are declared where they are called.
+
+// SAFETY: the declarations are those of c/havgrunel.h. The functions marked safe take numbers alone.
+unsafe extern "C" {
+    pub safe fn havgrunel_sqrt(a: f64) -> f64;
+    pub safe fn havgrunel_default_quadraticity() -> f64;
+    pub safe fn havgrunel_default_monotonicity() -> f64;
+    pub safe fn havgrunel_default_positivity() -> bool;
+    pub safe fn havgrunel_derivative(x: f64) -> u8;
+    pub safe fn havgrunel_inner_node(
+        before: f64,
+        here: f64,
+        after: f64,
+        average: f64,
+        next: f64,
+    ) -> f64;
+
+    pub fn havgrunel_build(
+        knots: *const f64,
+        knots_count: usize,
+        averages: *const f64,
+        averages_count: usize,
+        quadraticity: f64,
+        monotonicity: f64,
+        positive: bool,
+        hold: bool,
+        seamed: bool,
+        seam_count: usize,
+        seam_node: f64,
+        nodes: *mut f64,
+        nodes_count: usize,
+        tags: *mut u16,
+        tags_count: usize,
+        slots: *mut f64,
+        slots_count: usize,
+        sections: *mut usize,
+        sections_count: usize,
+        tail: *mut f64,
+        tail_count: usize,
+    ) -> u8;
+
+    pub fn havgrunel_grow(
+        knots: *const f64,
+        knots_count: usize,
+        averages: *const f64,
+        averages_count: usize,
+        quadraticity: f64,
+        monotonicity: f64,
+        positive: bool,
+        localisation: usize,
+        final_size: usize,
+        grown: bool,
+        previous_sections: usize,
+        previous_held: bool,
+        previous_tags: *const u16,
+        previous_tags_count: usize,
+        previous_slots: *const f64,
+        previous_slots_count: usize,
+        nodes: *mut f64,
+        nodes_count: usize,
+        tags: *mut u16,
+        tags_count: usize,
+        slots: *mut f64,
+        slots_count: usize,
+        sections: *mut usize,
+        sections_count: usize,
+        tail: *mut f64,
+        tail_count: usize,
+    ) -> u8;
+
+    pub fn havgrunel_sheet(
+        knots: *const f64,
+        knots_count: usize,
+        averages: *const f64,
+        averages_count: usize,
+        quadraticity: f64,
+        monotonicity: f64,
+        positive: bool,
+        left_given: bool,
+        left_node: f64,
+        right_given: bool,
+        right_node: f64,
+        start: f64,
+        place: usize,
+        nodes: *mut f64,
+        nodes_count: usize,
+        tags: *mut u16,
+        tags_count: usize,
+        slots: *mut f64,
+        slots_count: usize,
+        answer: *mut f64,
+        answer_count: usize,
+    ) -> u8;
+
+    pub fn havgrunel_build_in_sheets(
+        knots: *const f64,
+        knots_count: usize,
+        averages: *const f64,
+        averages_count: usize,
+        quadraticity: f64,
+        monotonicity: f64,
+        positive: bool,
+        cuts: *const usize,
+        cuts_count: usize,
+        nodes: *mut f64,
+        nodes_count: usize,
+        tags: *mut u16,
+        tags_count: usize,
+        slots: *mut f64,
+        slots_count: usize,
+        sections: *mut usize,
+        sections_count: usize,
+        tail: *mut f64,
+        tail_count: usize,
+    ) -> u8;
+
+    pub fn havgrunel_value(
+        knots: *const f64,
+        knots_count: usize,
+        tags: *const u16,
+        tags_count: usize,
+        slots: *const f64,
+        slots_count: usize,
+        tail_value: f64,
+        tail_total: f64,
+        tail_from: f64,
+        extrapolate: bool,
+        x: f64,
+        answer: *mut f64,
+        answer_count: usize,
+    ) -> u8;
+
+    pub fn havgrunel_primitive(
+        knots: *const f64,
+        knots_count: usize,
+        tags: *const u16,
+        tags_count: usize,
+        slots: *const f64,
+        slots_count: usize,
+        tail_value: f64,
+        tail_total: f64,
+        tail_from: f64,
+        extrapolate: bool,
+        x: f64,
+        answer: *mut f64,
+        answer_count: usize,
+    ) -> u8;
+
+    pub fn havgrunel_values(
+        knots: *const f64,
+        knots_count: usize,
+        tags: *const u16,
+        tags_count: usize,
+        slots: *const f64,
+        slots_count: usize,
+        tail_value: f64,
+        tail_total: f64,
+        tail_from: f64,
+        extrapolate: bool,
+        xs: *const f64,
+        xs_count: usize,
+        answers: *mut f64,
+        answers_count: usize,
+    ) -> u8;
+
+    pub fn havgrunel_primitives(
+        knots: *const f64,
+        knots_count: usize,
+        tags: *const u16,
+        tags_count: usize,
+        slots: *const f64,
+        slots_count: usize,
+        tail_value: f64,
+        tail_total: f64,
+        tail_from: f64,
+        extrapolate: bool,
+        xs: *const f64,
+        xs_count: usize,
+        answers: *mut f64,
+        answers_count: usize,
+    ) -> u8;
+
+    pub fn havgrunel_record(
+        points: usize,
+        slots: *const f64,
+        slots_count: usize,
+        number: usize,
+        into: *mut f64,
+        into_count: usize,
+    ) -> u8;
+
+    pub fn havgrunel_section(
+        tag: u16,
+        slots: *const f64,
+        slots_count: usize,
+        x: f64,
+        answer: *mut f64,
+        answer_count: usize,
+    ) -> u8;
+}
