@@ -1,10 +1,10 @@
 -- 01, Buffers and section records: a section from its tag and slots
-use Prim.Native.Nat.{ℕ, _/_, _%_}
+use Prim.Native.Nat.{ℕ, _*_, _/_, _%_}
 use mathlib.Core.Bool.{Bool, true, false, cond}
 use mathlib.Core.List.{List}
 use lib.Dec.{ltb, eqb}
 use lib.Ieee.{Float, nan}
-use lib.ListN.{length, getD}
+use lib.ListN.{length, getD, take, drop}
 use Rattle.section.specs.declared.everywhere_constant.EverywhereConstant.{EverywhereConstant}
 use Rattle.section.specs.declared.constant_grad.ConstantGrad.{ConstantGrad}
 use Rattle.convex.specs.declared.convex_monotone2.ConvexMonotone2.{ConvexMonotone2}
@@ -140,3 +140,7 @@ readSection tag s =
     (cond (eqb (spare tag) 0)
     (joined (slot s 0) (quadraticFrom (tag / 0x1000) s) (otherFrom (tag / 0x80 % 32) s))
     found.Illegal)
+
+-- the record of section i, of all records in a row
+abbrev pub recordAt : List ℕ → List Float → ℕ → Found
+recordAt tags slots i = readSection (getD tags i 0) (take slotCount (drop (slotCount * i) slots))

@@ -14,12 +14,24 @@ ghost use lib.ListN.{length};
 ghost use Rattle.section.specs.Section.{value, primitive};
 ghost use Rattle.record.specs.Slots.{slotCount};
 ghost use Rattle.reading.specs.Reading.{quadraticFrom, otherFrom, readSection};
-ghost use Rattle.reading.specs.Number.{answerIn, quadraticNumber, otherNumber, together};
+ghost use Rattle.reading.specs.Number.{answerIn, orNought, quadraticNumber, otherNumber, together};
 
 // What a record answers.
 pub enum Answer {
     Number(f64),
     Illegal,
+}
+
+impl Answer {
+    // The number, and +0.0 where there is none.
+    pub fn or_nought(self) -> f64
+        ensures { λ r. ⌜ r ≡ orNought self ⌝ }
+    {
+        match self {
+            Answer::Number(number) => number,
+            Answer::Illegal => 0.0,
+        }
+    }
 }
 
 // The number of one of a record's two parts: of a kind that stands alone, or of one that may share a section.
