@@ -1,32 +1,21 @@
--- What a build writes, a query reads: the records of a built curve give back its sections, and an accepted table passes the tests that a query makes of it.
-use Prim.Native.Nat.{ℕ, _+_, _-_, _*_, _/_, _%_, _≤_, _<_}
+-- What a build writes, a query reads: an accepted table passes the tests that a query makes of it, and the section that it finds is the one that was made.
+use Prim.Native.Nat.{ℕ, _-_, _*_, _≤_}
 use native.Mathlib.Omega.{arith}
-use native.Mathlib.Nat.{zero-add}
 use mathlib.Core.Bool.{Bool, true, false, cond, _||_}
 use mathlib.Core.List.{List}
 use mathlib.Core.Path.{_≡_, refl, sym, ap, _∙_}
 use lib.Dec.{ltb}
-use lib.Ieee.{Float, nan, le, ne}
-use lib.ListN.{length, take, drop, getD, length-drop}
-use lib.Seq.{length-take-le, getD-take, getD-drop, ext-getD}
+use lib.Ieee.{Float, le, ne}
+use lib.ListN.{length}
 use Rattle.numbers.proofs.Ways.{or-none}
-use Rattle.numbers.proofs.Overlay.{overlay-inside, length-overlay}
+use Rattle.numbers.proofs.Overlay.{length-overlay}
 use Rattle.section.specs.Section.{value, primitive}
-use Rattle.section.specs.declared.quadratic_part.QuadraticPart.{QuadraticPart}
-use Rattle.section.specs.declared.quadratic_part.QuadraticPart.the-variants as quadratic
-use Rattle.section.specs.declared.convex_monotone_part.ConvexMonotonePart.{ConvexMonotonePart}
-use Rattle.section.specs.declared.convex_monotone_part.ConvexMonotonePart.the-variants as convex
 use Rattle.section.specs.declared.section.Section.{Section}
-use Rattle.section.specs.declared.section.Section.the-variants as kind
-use Rattle.reading.specs.Reading.{readSection}
 use Rattle.record.specs.Refusal.{first}
-use Rattle.record.specs.Slots.{slotCount, slotsOf, quadraticSlots, convexSlots, layout}
-use Rattle.record.specs.Tag.{tagOf}
 use Rattle.reading.specs.declared.reading.Found.{Found}
 use Rattle.reading.specs.declared.reading.Found.the-variants as found
 use Rattle.record.specs.declared.refusal.Verdict.the-variants as verdict
 use Rattle.record.proofs.First.{passed, accepted}
-use Rattle.reading.proofs.RoundTrip.{round-trip}
 use Rattle.table.specs.Table.{at}
 use Rattle.table.specs.declared.method.ConvexMonotone.{ConvexMonotone}
 use Rattle.table.specs.declared.ends.Frame.{Frame}
@@ -35,6 +24,7 @@ use Rattle.curve.specs.Build.{buildTests}
 use Rattle.shape.specs.Making.{tagsAfter, slotsAfter}
 use Rattle.query.specs.Query.{queryTests, outside, placeOf, tailSection, covering, coveredAt, ask}
 use Rattle.shape.specs.Sections.{sectionAt, tagAt, slotAt}
+use Rattle.shape.proofs.ReadBack.{record-read-back}
 use Rattle.curve.specs.declared.curve.Curve.{Curve}
 use Rattle.query.specs.declared.single.Covered.{Covered}
 use Rattle.query.specs.declared.single.Covered.the-variants as covered
@@ -42,41 +32,6 @@ use Rattle.query.specs.declared.single.Asked.the-variants as asked
 use Rattle.curve.proofs.Accepted.{fits}
 use Rattle.query.proofs.Answers.{found-here}
 use Rattle.query.proofs.Walk.{place-le}
-
--- a weight, a quadratic part and another part fill 24 slots
-parts-length : (w : Float) (p : QuadraticPart) (c : ConvexMonotonePart) → length (layout w (quadraticSlots p) (convexSlots c)) ≡ 24
-unfolding quadraticSlots convexSlots
-parts-length w (quadratic.Quadratic p) (convex.ConvexMonotone2 c) = refl
-parts-length w (quadratic.Quadratic p) (convex.ConvexMonotone3 c) = refl
-parts-length w (quadratic.Quadratic p) (convex.ConvexMonotone4 c) = refl
-parts-length w (quadratic.Quadratic p) (convex.ConvexMonotone4Min c) = refl
-parts-length w (quadratic.QuadraticMin p) (convex.ConvexMonotone2 c) = refl
-parts-length w (quadratic.QuadraticMin p) (convex.ConvexMonotone3 c) = refl
-parts-length w (quadratic.QuadraticMin p) (convex.ConvexMonotone4 c) = refl
-parts-length w (quadratic.QuadraticMin p) (convex.ConvexMonotone4Min c) = refl
-
--- every record has 24 slots
-pub slots-length : (s : Section) → length (slotsOf s) ≡ 24
-unfolding slotsOf quadraticSlots convexSlots
-slots-length (kind.EverywhereConstant s) = refl
-slots-length (kind.ConstantGrad s) = refl
-slots-length (kind.ConvexMonotone2 s) = refl
-slots-length (kind.ConvexMonotone3 s) = refl
-slots-length (kind.ConvexMonotone4 s) = refl
-slots-length (kind.ConvexMonotone4Min s) = refl
-slots-length (kind.Quadratic s) = refl
-slots-length (kind.QuadraticMin s) = refl
-slots-length (kind.Combination s) = parts-length (s .quadraticity) (s .«quadratic_helper») (s .«conv_mono_helper»)
-
--- the part of a list that holds another list, place by place, is that list
-part-is : (big small : List Float) (p n : ℕ) → length small ≡ n → p + n ≤ length big →
-    ((k : ℕ) → k < n → getD big (p + k) nan ≡ getD small k nan) → take n (drop p big) ≡ small
-part-is big small p n e r h =
-    let room : n ≤ length (drop p big) = rw length-drop (omega arith) in
-    let size : length (take n (drop p big)) ≡ n = length-take-le n (drop p big) room in
-    ext-getD nan (take n (drop p big)) small (size ∙ sym e)
-    (λ (k : ℕ) (l : k < length (take n (drop p big))).
-    let m : k < n = omega arith in getD-take n (drop p big) k nan m ∙ getD-drop p big k nan ∙ h k m)
 
 -- one of two sections is found, if the second is found where it is read
 either-found : (b : Bool) (s t : Section) (f : Found) → f ≡ found.Section t → cond b (found.Section s) f ≡ found.Section (cond b s t)
@@ -99,40 +54,6 @@ query-accepted x y method seam nodes tags slots newTags newSlots curve q h e f n
     (t .1 .1 .1 .0, (t .1 .1 .1 .1 .0, (t .1 .1 .1 .1 .1 .1 .0, (t .1 .1 .1 .1 .1 .1 .1 .1 .0, (room, (number, (inside, tt)))))))
 
 module _ (x y : List Float) (frame : Frame) where
-  -- slot k of record i
-  slot-here : (i k : ℕ) → k < 24 → slotAt x y frame (24 * i + k) ≡ getD (slotsOf (sectionAt x y frame i)) k nan
-  slot-here i k l =
-      let d : (24 * i + k) / 24 ≡ i = omega arith in
-      let m : (24 * i + k) % 24 ≡ k = omega arith in
-      ap (λ (j : ℕ). getD (slotsOf (sectionAt x y frame j)) ((24 * i + k) % 24) nan) d ∙ ap (λ (j : ℕ). getD (slotsOf (sectionAt x y frame i)) j nan) m
-
-  -- the tag that is written for a section
-  pub tag-read-back : (i : ℕ) (tags : List ℕ) → i < length x - 1 → length x - 1 ≤ length tags →
-      getD (tagsAfter 0 x y frame tags) i 0 ≡ tagOf (sectionAt x y frame i)
-  tag-read-back i tags l h =
-      ap (λ (j : ℕ). getD (tagsAfter 0 x y frame tags) j 0) (sym (zero-add i))
-      ∙ overlay-inside 0 (length x - 1) (tagAt x y frame) tags i 0 l (omega arith)
-
-  -- the slots that are written for it
-  pub slots-read-back : (i : ℕ) (slots : List Float) → i < length x - 1 → 24 * (length x - 1) ≤ length slots →
-      take slotCount (drop (slotCount * i) (slotsAfter 0 x y frame slots)) ≡ slotsOf (sectionAt x y frame i)
-  slots-read-back i slots l h =
-      let same : length (slotsAfter 0 x y frame slots) ≡ length slots = length-overlay 0 (24 * (length x - 1)) (slotAt x y frame) slots in
-      part-is (slotsAfter 0 x y frame slots) (slotsOf (sectionAt x y frame i)) (24 * i) 24 (slots-length (sectionAt x y frame i)) (omega arith)
-      (λ (k : ℕ) (m : k < 24).
-      ap (λ (j : ℕ). getD (slotsAfter 0 x y frame slots) j nan) (sym (zero-add (24 * i + k)))
-      ∙ overlay-inside 0 (24 * (length x - 1)) (slotAt x y frame) slots (24 * i + k) nan (omega arith) (omega arith)
-      ∙ slot-here i k m)
-
-  -- each record of a built curve is read back as the section it was written from
-  pub record-read-back : (i : ℕ) (tags : List ℕ) (slots : List Float) → i < length x - 1 → length x - 1 ≤ length tags → 24 * (length x - 1) ≤ length slots →
-      readSection (getD (tagsAfter 0 x y frame tags) i 0) (take slotCount (drop (slotCount * i) (slotsAfter 0 x y frame slots)))
-      ≡ found.Section (sectionAt x y frame i)
-  record-read-back i tags slots l h g =
-      ap (λ (t : ℕ). readSection t (take slotCount (drop (slotCount * i) (slotsAfter 0 x y frame slots)))) (tag-read-back i tags l h)
-      ∙ ap (λ (s : List Float). readSection (tagOf (sectionAt x y frame i)) s) (slots-read-back i slots l g)
-      ∙ round-trip (sectionAt x y frame i)
-
   -- the section that answers a query: the tail's from the last knot on, else the one at the query's place
   abbrev pub answering : Curve → Float → Section
   answering curve q = cond (le (at x (length x - 1)) q) (tailSection curve) (sectionAt x y frame (placeOf x q))
@@ -144,7 +65,7 @@ module _ (x y : List Float) (frame : Frame) where
   unfolding covering
   covering-read-back curve tags slots q low h g =
       either-found (le (at x (length x - 1)) q) (tailSection curve) (sectionAt x y frame (placeOf x q)) _
-      (record-read-back (placeOf x q) tags slots (omega (arith, place-le x q)) h g)
+      (record-read-back x y frame (placeOf x q) tags slots (omega (arith, place-le x q)) h g)
 
   -- a query of a built curve that is a number, and inside the knots or allowed outside them, is never refused: that section answers it
   pub query-of-built : (method : ConvexMonotone) (seam : Seam) (nodes : List Float) (tags : List ℕ) (slots : List Float) (curve : Curve) (q : Float) →

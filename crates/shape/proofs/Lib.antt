@@ -1,4 +1,5 @@
 pub mod Places
+pub mod ReadBack
 pub mod Rows
 pub mod Sizes
 pub mod Unique

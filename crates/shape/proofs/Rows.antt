@@ -3,10 +3,10 @@ use Prim.Native.Nat.{ℕ, _+_, _-_, _*_, _/_, _%_, _<_}
 use native.Mathlib.Omega.{arith}
 use native.Mathlib.Nat.{zero-add}
 use native.Mathlib.Numerals.{add-one}
-use mathlib.Core.Bool.{Bool, true, false, cond, _&&_}
+use mathlib.Core.Bool.{true, false, _&&_}
 use mathlib.Core.List.{List}
 use mathlib.Core.Path.{_≡_, refl, sym, ap, _∙_}
-use borrow.Author.Tests.{eq-eqb, ne-eqb}
+use lib.Dec.{eqb}
 use lib.Ieee.{Float, nan}
 use lib.ListN.{length, getD, set}
 use Rattle.numbers.specs.Words.{_⊕_, _⊖_, _⊗_}
@@ -19,26 +19,20 @@ use Rattle.table.specs.Table.{at, totalAt}
 use Rattle.table.specs.declared.ends.Frame.{Frame}
 use Rattle.shape.specs.Sections.{shapedAt, heldAt, sectionAt, tagAt, slotAt}
 
-not-both : {A : Type 0} (b c : Bool) (p q : A) → c ≡ false → cond (b && c) p q ≡ q
-not-both true c p q h = rw h
-not-both false c p q h = refl
-
 module _ (x y : List Float) (frame : Frame) where
-  -- a period before the last is shaped, whether or not the last is held
-  pub before-last : (i : ℕ) → i < length x - 2 → sectionAt x y frame i ≡ shapedAt x y frame i
-  unfolding sectionAt
-  before-last i h = let e : i ≡ length x - 2 → ⊥ = λ z. omega arith in not-both (frame .hold) _ _ _ (ne-eqb i (length x - 2) e)
-
   pub tag-more : (i : ℕ) (s : Section) (old tags : List ℕ) → tags ≡ overlay 0 i (tagAt x y frame) old → s ≡ sectionAt x y frame i →
       set tags i (tagOf s) ≡ overlay 0 (i + 1) (tagAt x y frame) old
   tag-more i s old tags e f = overlay-more 0 i (tagAt x y frame) old tags i (tagOf s) e (sym (zero-add i)) (ap tagOf f)
 
-  slot-same : (i : ℕ) (s : Section) → s ≡ sectionAt x y frame i → (k : ℕ) → k < 24 → getD (slotsOf s) k nan ≡ slotAt x y frame (24 * i + k)
-  slot-same i s f k l =
+  -- slot k of record i
+  pub slot-here : (i k : ℕ) → k < 24 → slotAt x y frame (24 * i + k) ≡ getD (slotsOf (sectionAt x y frame i)) k nan
+  slot-here i k l =
       let d : (24 * i + k) / 24 ≡ i = omega arith in
       let m : (24 * i + k) % 24 ≡ k = omega arith in
-      ap (λ (t : Section). getD (slotsOf t) k nan) f
-      ∙ sym (ap (λ (j : ℕ). getD (slotsOf (sectionAt x y frame j)) ((24 * i + k) % 24) nan) d ∙ ap (λ (j : ℕ). getD (slotsOf (sectionAt x y frame i)) j nan) m)
+      ap (λ (j : ℕ). getD (slotsOf (sectionAt x y frame j)) ((24 * i + k) % 24) nan) d ∙ ap (λ (j : ℕ). getD (slotsOf (sectionAt x y frame i)) j nan) m
+
+  slot-same : (i : ℕ) (s : Section) → s ≡ sectionAt x y frame i → (k : ℕ) → k < 24 → getD (slotsOf s) k nan ≡ slotAt x y frame (24 * i + k)
+  slot-same i s f k l = ap (λ (t : Section). getD (slotsOf t) k nan) f ∙ sym (slot-here i k l)
 
   pub slots-more : (i : ℕ) (s : Section) (old slots out : List Float) → slots ≡ overlay 0 (24 * i) (slotAt x y frame) old →
       out ≡ overlay (24 * i) 24 (λ k. getD (slotsOf s) k nan) slots → s ≡ sectionAt x y frame i →
@@ -57,11 +51,11 @@ module _ (x y : List Float) (frame : Frame) where
   unfolding totalAt
   total-more i total e = ap (λ (t : Float). t ⊕ at y (i + 1) ⊗ (at x (i + 1) ⊖ at x i)) e ∙ sym (ap (λ (n : ℕ). totalAt x y frame n) (add-one i))
 
-  -- the last period, held and not
-  pub last-held : frame .hold ≡ true → sectionAt x y frame (length x - 2) ≡ heldAt x y frame (length x - 2)
+  -- a period that is held, and one that is not
+  pub held-here : (i : ℕ) → frame .hold && eqb i (length x - 2) ≡ true → sectionAt x y frame i ≡ heldAt x y frame i
   unfolding sectionAt
-  last-held h = simp (h, eq-eqb (length x - 2) (length x - 2) refl)
+  held-here i h = simp h
 
-  pub last-shaped : frame .hold ≡ false → sectionAt x y frame (length x - 2) ≡ shapedAt x y frame (length x - 2)
+  pub shaped-here : (i : ℕ) → frame .hold && eqb i (length x - 2) ≡ false → sectionAt x y frame i ≡ shapedAt x y frame i
   unfolding sectionAt
-  last-shaped h = simp h
+  shaped-here i h = simp h

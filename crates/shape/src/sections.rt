@@ -1,18 +1,24 @@
 // The sections of a table, and their records in lent buffers.
 use choice::period::Period;
+use reading::number::value_in;
+use reading::reading::Found;
 use record::slots::SLOTS;
 use section::everywhere_constant::EverywhereConstant;
 use section::section::Section;
 use table::ends::Frame;
 ghost use mathlib.Core.Path.{_≡_};
+ghost use mathlib.Core.Bool.{_&&_};
 ghost use Prim.Native.Nat.{ℕ, _+_, _-_, _*_, _≤_, _<_};
+ghost use lib.Dec.{eqb};
 ghost use lib.Ieee.{Float, nan};
 ghost use lib.ListN.{length, getD, set};
 ghost use Rattle.numbers.specs.Overlay.{overlay};
 ghost use Rattle.record.specs.Slots.{slotsOf};
 ghost use Rattle.record.specs.Tag.{tagOf};
+ghost use Rattle.reading.specs.Reading.{recordAt};
 ghost use Rattle.table.specs.Table.{at, nodeAt, totalAt};
-ghost use Rattle.shape.specs.Sections.{shapedAt, heldAt, sectionAt, tagAt, slotAt, tailOf};
+ghost use Rattle.shape.specs.Sections.{sectionAt, tailOf};
+ghost use Rattle.shape.specs.Making.{nodesAfter, tagsAfter, slotsAfter};
 
 // A constant section's three numbers, as a curve keeps them for queries from the last knot on.
 pub struct Tail {
@@ -40,13 +46,24 @@ fn put(section: Section, i: usize, tags: &mut [u16], slots: &mut [f64])
     copy(record::slots::slots_of(section), slots, SLOTS * i);
 }
 
-// The section of period i + 1, with the nodes at hand and the total before it.
-fn shaped(xs: &[f64], ys: &[f64], frame: Frame, nodes: &[f64], i: usize, total: f64) -> Section
+// Whether the period after knot i is the last one, and held.
+fn is_held(hold: bool, points: usize, i: usize) -> bool
+    requires { ⌜ 2 ≤ points ⌝ }
+    ensures { λ r. ⌜ r ≡ (hold && eqb i (points - 2)) ⌝ }
+{
+    hold && i == points - 2
+}
+
+// The section of period i + 1, with the nodes at hand and the total before it: constant where it is held.
+fn section_at(xs: &[f64], ys: &[f64], frame: Frame, nodes: &[f64], i: usize, total: f64) -> Section
     requires { ⌜ (i + 1 < length (now xs)) × (length (now xs) ≡ length (now ys)) × (length (now xs) ≤ length (now nodes)) × (length (now xs) ≤ 4096) ⌝ }
     requires { ⌜ ((k : ℕ) → k < length (now xs) → at (now nodes) k ≡ nodeAt (now xs) (now ys) frame k) ⌝ }
     requires { ⌜ total ≡ totalAt (now xs) (now ys) frame i ⌝ }
-    ensures { λ r. ⌜ r ≡ shapedAt (now (xs .entry)) (now (ys .entry)) frame i ⌝ }
+    ensures { λ r. ⌜ r ≡ sectionAt (now (xs .entry)) (now (ys .entry)) frame i ⌝ }
 {
+    if is_held(frame.hold, xs.len(), i) {
+        return Section::EverywhereConstant(EverywhereConstant::new(ys[i + 1], total, xs[i]));
+    }
     let period = Period {
         x_prev: xs[i],
         x_next: xs[i + 1],
@@ -58,8 +75,9 @@ fn shaped(xs: &[f64], ys: &[f64], frame: Frame, nodes: &[f64], i: usize, total: 
     choice::section_of(frame.method, period)
 }
 
-// The sections but the last, whose records it writes; answers the total before the last period.
-fn put_first(
+// Writes the record of every section; answers the total before the last period. The one place where a section is made and written: the compiler then
+// takes both into the loop, and a section goes from its formulas straight into its slots. A second place would have it copied, which takes half as long again.
+fn put_sections(
     xs: &[f64],
     ys: &[f64],
     frame: Frame,
@@ -71,36 +89,25 @@ fn put_first(
     requires { ⌜ (length (now xs) - 1 ≤ length (now tags)) × (24 * (length (now xs) - 1) ≤ length (now slots)) ⌝ }
     requires { ⌜ ((k : ℕ) → k < length (now xs) → at (now nodes) k ≡ nodeAt (now xs) (now ys) frame k) ⌝ }
     ensures total { λ r. ⌜ r ≡ totalAt (now (xs .entry)) (now (ys .entry)) frame (length (now (xs .entry)) - 2) ⌝ }
-    ensures tags { λ _. ⌜ now (tags .exit) ≡ overlay 0 (length (now (xs .entry)) - 2) (tagAt (now (xs .entry)) (now (ys .entry)) frame) (now (tags .entry)) ⌝ }
-    ensures slots { λ _. ⌜ now (slots .exit) ≡ overlay 0 (24 * (length (now (xs .entry)) - 2)) (slotAt (now (xs .entry)) (now (ys .entry)) frame) (now (slots .entry)) ⌝ }
+    ensures tags { λ _. ⌜ now (tags .exit) ≡ tagsAfter 0 (now (xs .entry)) (now (ys .entry)) frame (now (tags .entry)) ⌝ }
+    ensures slots { λ _. ⌜ now (slots .exit) ≡ slotsAfter 0 (now (xs .entry)) (now (ys .entry)) frame (now (slots .entry)) ⌝ }
 {
-    let count = xs.len() - 2;
+    let count = xs.len() - 1;
     let mut total = frame.start;
+    let mut before = total;
     for i in 0..count {
-        put(shaped(xs, ys, frame, nodes, i, total), i, tags, slots);
+        put(section_at(xs, ys, frame, nodes, i, total), i, tags, slots);
+        before = total;
         total = total + ys[i + 1] * (xs[i + 1] - xs[i]);
     }
-    total
+    before
 }
 
-// The last section: constant where it is held.
-fn last_section(xs: &[f64], ys: &[f64], frame: Frame, nodes: &[f64], total: f64) -> Section
-    requires { ⌜ (2 ≤ length (now xs)) × (length (now xs) ≡ length (now ys)) × (length (now xs) ≤ length (now nodes)) × (length (now xs) ≤ 4096) ⌝ }
-    requires { ⌜ ((k : ℕ) → k < length (now xs) → at (now nodes) k ≡ nodeAt (now xs) (now ys) frame k) ⌝ }
-    requires { ⌜ total ≡ totalAt (now xs) (now ys) frame (length (now xs) - 2) ⌝ }
-    ensures { λ r. ⌜ r ≡ sectionAt (now (xs .entry)) (now (ys .entry)) frame (length (now (xs .entry)) - 2) ⌝ }
-{
-    let i = xs.len() - 2;
-    if frame.hold {
-        return Section::EverywhereConstant(EverywhereConstant::new(ys[i + 1], total, xs[i]));
-    }
-    shaped(xs, ys, frame, nodes, i, total)
-}
-
-// The record beyond the last knot.
-fn tail_of(xs: &[f64], ys: &[f64], frame: Frame, last: Section, total: f64) -> Tail
+// The record beyond the last knot. Where the last period is shaped, its price there is read from its record.
+fn tail_of(xs: &[f64], ys: &[f64], frame: Frame, tags: &[u16], slots: &[f64], total: f64) -> Tail
     requires { ⌜ (2 ≤ length (now xs)) × (length (now xs) ≡ length (now ys)) × (length (now xs) ≤ 4096) ⌝ }
-    requires { ⌜ last ≡ sectionAt (now xs) (now ys) frame (length (now xs) - 2) ⌝ }
+    requires { ⌜ (length (now xs) - 1 ≤ length (now tags)) × (24 * (length (now xs) - 1) ≤ length (now slots)) ⌝ }
+    requires { ⌜ recordAt (now tags) (now slots) (length (now xs) - 2) ≡ Found.Section (sectionAt (now xs) (now ys) frame (length (now xs) - 2)) ⌝ }
     requires { ⌜ total ≡ totalAt (now xs) (now ys) frame (length (now xs) - 2) ⌝ }
     ensures { λ r. ⌜ r ≡ tailOf (now (xs .entry)) (now (ys .entry)) frame ⌝ }
 {
@@ -113,8 +120,10 @@ fn tail_of(xs: &[f64], ys: &[f64], frame: Frame, last: Section, total: f64) -> T
         };
     }
     let end = xs[i + 1];
+    let from = SLOTS * i;
+    let last = value_in(tags[i], &slots[from..from + SLOTS], end);
     Tail {
-        value: last.value(end),
+        value: last.or_nought(),
         total: total + ys[i + 1] * (end - xs[i]),
         from: end,
     }
@@ -132,13 +141,11 @@ pub(crate) fn put_all(
     requires { ⌜ (2 ≤ length (now xs)) × (length (now xs) ≡ length (now ys)) × (length (now xs) ≤ 4096) ⌝ }
     requires { ⌜ (length (now xs) ≤ length (now nodes)) × (length (now xs) - 1 ≤ length (now tags)) × (24 * (length (now xs) - 1) ≤ length (now slots)) ⌝ }
     ensures tail { λ r. ⌜ r ≡ tailOf (now (xs .entry)) (now (ys .entry)) frame ⌝ }
-    ensures nodes { λ _. ⌜ now (nodes .exit) ≡ overlay 0 (length (now (xs .entry))) (nodeAt (now (xs .entry)) (now (ys .entry)) frame) (now (nodes .entry)) ⌝ }
-    ensures tags { λ _. ⌜ now (tags .exit) ≡ overlay 0 (length (now (xs .entry)) - 1) (tagAt (now (xs .entry)) (now (ys .entry)) frame) (now (tags .entry)) ⌝ }
-    ensures slots { λ _. ⌜ now (slots .exit) ≡ overlay 0 (24 * (length (now (xs .entry)) - 1)) (slotAt (now (xs .entry)) (now (ys .entry)) frame) (now (slots .entry)) ⌝ }
+    ensures nodes { λ _. ⌜ now (nodes .exit) ≡ nodesAfter 0 (now (xs .entry)) (now (ys .entry)) frame (now (nodes .entry)) ⌝ }
+    ensures tags { λ _. ⌜ now (tags .exit) ≡ tagsAfter 0 (now (xs .entry)) (now (ys .entry)) frame (now (tags .entry)) ⌝ }
+    ensures slots { λ _. ⌜ now (slots .exit) ≡ slotsAfter 0 (now (xs .entry)) (now (ys .entry)) frame (now (slots .entry)) ⌝ }
 {
     crate::nodes::fill(xs, ys, frame, nodes);
-    let total = put_first(xs, ys, frame, nodes, tags, slots);
-    let last = last_section(xs, ys, frame, nodes, total);
-    put(last, xs.len() - 2, tags, slots);
-    tail_of(xs, ys, frame, last, total)
+    let total = put_sections(xs, ys, frame, nodes, tags, slots);
+    tail_of(xs, ys, frame, tags, slots, total)
 }

@@ -1,4 +1,5 @@
--- `sections::put_first` meets its contract. The invariant: the first i records are written, and the total is that of the first i periods.
+-- `sections::put_sections` meets its contract. The invariant: the first i records are written, the total is that of the first i periods, and the one before it
+-- that of the first i - 1.
 use Prim.Native.Nat.{ℕ, _+_, _-_, _*_, _≤_, _<_}
 use native.Mathlib.Omega.{arith}
 use mathlib.Core.Path.{_≡_, refl, sym, ap, _∙_}
@@ -8,19 +9,19 @@ use Rattle.numbers.specs.Overlay.{overlay}
 use Rattle.numbers.proofs.Overlay.{overlay-none, length-overlay}
 use Rattle.table.specs.Table.{at, nodeAt, totalAt}
 use Rattle.shape.specs.Sections.{sectionAt, tagAt, slotAt}
-use Rattle.shape.proofs.Rows.{before-last, tag-more, slots-more, total-more}
-use Rattle.shape.proofs.sections.put_first.Statement.{statement}
-use Rattle.shape.proofs.sections.put_first.Tie as tie
+use Rattle.shape.proofs.Rows.{tag-more, slots-more, total-more}
+use Rattle.shape.proofs.sections.put_sections.Statement.{statement}
+use Rattle.shape.proofs.sections.put_sections.Tie as tie
 
 abbrev Inv-loop : tie.InvT-loop
-Inv-loop xs ys frame nodes tags₀ slots₀ count total₀ i₀ tags slots total i =
-    (i ≤ count) × (count + 2 ≡ length xs) × (length xs ≡ length ys) × (length xs ≤ length nodes) × (length xs ≤ 4096) × (length xs - 1 ≤ length tags₀)
+Inv-loop xs ys frame nodes tags₀ slots₀ count total₀ before₀ i₀ tags slots total before i =
+    (i ≤ count) × (count + 1 ≡ length xs) × (2 ≤ length xs) × (length xs ≡ length ys) × (length xs ≤ length nodes) × (length xs ≤ 4096) × (length xs - 1 ≤ length tags₀)
     × (24 * (length xs - 1) ≤ length slots₀) × (length tags ≡ length tags₀) × (length slots ≡ length slots₀)
-    × ((k : ℕ) → k < length xs → at nodes k ≡ nodeAt xs ys frame k) × (total ≡ totalAt xs ys frame i)
+    × ((k : ℕ) → k < length xs → at nodes k ≡ nodeAt xs ys frame k) × (total ≡ totalAt xs ys frame i) × (before ≡ totalAt xs ys frame (i - 1))
     × (tags ≡ overlay 0 i (tagAt xs ys frame) tags₀) × (slots ≡ overlay 0 (24 * i) (slotAt xs ys frame) slots₀)
 
 abbrev μ-loop : tie.MeasureT-loop
-μ-loop xs ys frame nodes tags₀ slots₀ count total₀ i₀ tags slots total i = count - i
+μ-loop xs ys frame nodes tags₀ slots₀ count total₀ before₀ i₀ tags slots total before i = count - i
 
 sub-count : tie.Need-sub-count Inv-loop μ-loop
 sub-count c = search needs
@@ -36,16 +37,18 @@ loop-holds c =
       search needs,
       search needs,
       search needs,
+      search needs,
       refl,
       refl,
       s .pre .1 .1,
+      refl,
       refl,
       overlay-none 0 _ _,
       overlay-none 0 _ _,
     )
 
-shaped-requires : tie.Need-shaped-requires Inv-loop μ-loop
-shaped-requires c κs = let l = c .before .loop in (search needs, (l .inv .9, l .inv .10))
+section-at-requires : tie.Need-section-at-requires Inv-loop μ-loop
+section-at-requires c κs = let l = c .before .loop in (search needs, (l .inv .10, l .inv .11))
 
 put-requires : tie.Need-put-requires Inv-loop μ-loop
 put-requires c κs =
@@ -86,12 +89,12 @@ loop-less c = search needs
 
 loop-again : tie.Need-loop-again Inv-loop μ-loop
 loop-again c =
-    let p = c .before .before .before .before .before .before .before in
-    let l = p .before .before .before .before .before .loop in
-    let a = p .before .before .before .before .before .before .before .before .before .before .before .args in
+    let l = c .before .before .before .before .before .before .before .before .before .before .before .before .loop in
+    let a = c .before .before .before .before .before .before .before .before .before .before .before .before .before .before .before .before .before .before .args in
     let x = a .xs .now in
     let y = a .ys .now in
-    let s : p .before .before .before .shaped .result ≡ sectionAt x y (a .frame) (l .i) = p .before .before .before .shaped .ensures ∙ sym (before-last x y (a .frame) (l .i) (omega arith)) in (
+    let s = c .before .before .before .before .before .before .before .before .before .before .section-at .ensures in
+    let e : l .i + 1 - 1 ≡ l .i = omega arith in (
       omega arith,
       search needs,
       search needs,
@@ -101,10 +104,12 @@ loop-again c =
       search needs,
       search needs,
       search needs,
-      l .inv .9,
-      total-more x y (a .frame) (l .i) _ (l .inv .10),
-      p .put .ensures .0 ∙ tag-more x y (a .frame) (l .i) _ _ _ (l .inv .11) s,
-      slots-more x y (a .frame) (l .i) _ _ _ _ (l .inv .12) (p .put .ensures .1) s,
+      search needs,
+      l .inv .10,
+      total-more x y (a .frame) (l .i) _ (l .inv .11),
+      l .inv .11 ∙ ap (λ (k : ℕ). totalAt x y (a .frame) k) (sym e),
+      c .before .before .before .before .before .before .before .put .ensures .0 ∙ tag-more x y (a .frame) (l .i) _ _ _ (l .inv .13) s,
+      slots-more x y (a .frame) (l .i) _ _ _ _ (l .inv .14) (c .before .before .before .before .before .before .before .put .ensures .1) s,
     )
 
 same-length : tie.Need-same-length Inv-loop μ-loop
@@ -117,18 +122,19 @@ returns : tie.Need-returns Inv-loop μ-loop
 returns c =
     let l = c .before .loop in
     let a = c .before .before .before .before .before .before .before .args in
-    let e : l .i ≡ length (a .xs .now) - 2 = omega arith in
-    (rw e at (l .inv .10), (rw e at (l .inv .11), rw e at (l .inv .12)))
+    let e : l .i ≡ length (a .xs .now) - 1 = omega arith in
+    let f : l .i - 1 ≡ length (a .xs .now) - 2 = omega arith in
+    (rw f at (l .inv .12), (rw e at (l .inv .13), rw e at (l .inv .14)))
 
-pub put-first-spec : {M : Type 1} → statement M
-put-first-spec =
+pub put-sections-spec : {M : Type 1} → statement M
+put-sections-spec =
     tie.close
     (tie.spec
     Inv-loop
     μ-loop
     sub-count
     loop-holds
-    shaped-requires
+    section-at-requires
     put-requires
     add-total
     mul-total
