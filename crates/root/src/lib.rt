@@ -72,21 +72,20 @@ fn special(a: f64) -> f64
     a
 }
 
-// Twice the root of the number from 1 to 4 whose bits are m and those of 1, within an ulp or so; nothing is promised of it. Half the bits, taken from a constant, are
-// those of its reciprocal root, near enough; a polynomial takes away what it is off, to 31 binary digits, and a step of Heron's doubles those.
-fn guess(m: u64) -> f64
-    requires { ⌜ m < 2 ^ 53 ⌝ }
+// The root of the normal number a with these bits, within an ulp or so; nothing is promised of it. Half the bits, taken from a constant, are those of its
+// reciprocal root, near enough; a polynomial takes away what that is off, to 30 binary digits, and a step of Newton's doubles those, with no division.
+fn guess(a: f64, bits: u64) -> f64
+    requires { ⌜ bits < 2047 * 2 ^ 52 ⌝ }
 {
-    let bits = m + 0x3ff0_0000_0000_0000;
-    let a = f64::from_bits(bits);
     let y = f64::from_bits(0x5fe6_0000_0000_0000 - bits / 2);
     let z = a * y;
     let e = z * y;
     let ee = e * e;
     let low = 2.8044141519973484 - 5.0148694218507845 * e
         + ee * (6.454128266295795 - 4.942359598279734 * e);
-    let x = z * (low + ee * ee * (2.0597421617082423 - 0.36105556435542824 * e));
-    x + a / x
+    let p = low + ee * ee * (2.0597421617082423 - 0.36105556435542824 * e);
+    let x = z * p;
+    x + 0.5 * y * p * (a - x * x)
 }
 
 // The whole number nearest to the square root of s * 2^52, found from one close by, or 0 where g is not seen to be close. The square of g is
@@ -126,19 +125,19 @@ fn brought(m: u64) -> u64
     }
 }
 
-// The bits of the root of the normal number with these bits: a guess, made right by whole numbers, or 0 where it was too far off. Of `from` the upper digits,
-// halved, are the root's exponent.
-fn normal(bits: u64) -> u64
+// The bits of the root of the normal number a with these bits: a guess, made right by whole numbers, or 0 where it was too far off. Of `from` the upper digits,
+// halved, are the root's exponent; of the guess only the significand is taken.
+fn normal(a: f64, bits: u64) -> u64
     requires { ⌜ (2 ^ 52 ≤ bits) × (bits < 2047 * 2 ^ 52) ⌝ }
     ensures { λ r. ⌜ (r ≡ 0) ⊎ (r ≡ rootBits (unitsOfBits bits)) ⌝ }
 {
     let from = bits + 0x3fd0_0000_0000_0000;
     let m = from % 0x20_0000_0000_0000;
-    let x = guess(m);
+    let x = guess(a, bits);
     if x != x {
         return 0;
     }
-    let g = f64::to_bits(x) % 0x20_0000_0000_0000 + 0x10_0000_0000_0000;
+    let g = f64::to_bits(x) % 0x10_0000_0000_0000 + 0x10_0000_0000_0000;
     let r = settle(brought(m), g);
     if r == 0 {
         return 0;
@@ -154,7 +153,7 @@ pub fn sqrt(a: f64) -> f64
         if a <= 1.7976931348623157e308 {
             let bits = f64::to_bits(a);
             if 0x10_0000_0000_0000 <= bits {
-                let r = normal(bits);
+                let r = normal(a, bits);
                 if r != 0 {
                     return f64::from_bits(r);
                 }

@@ -41,18 +41,23 @@ fn compiled_for() -> String {
     }
 }
 
-/// The processor by its name, where the system tells it.
+/// The processor by its name, or, as on Arm, by the numbers of its maker and its kind, where the system tells them.
 fn processor() -> String {
     let told = std::fs::read_to_string("/proc/cpuinfo").unwrap_or_default();
-    let name = told
-        .lines()
-        .find_map(|line| line.strip_prefix("model name"));
-    let name = name.and_then(|rest| rest.split(':').nth(1)).map(str::trim);
-    format!(
-        "{} ({})",
-        name.unwrap_or("processor not named"),
-        std::env::consts::ARCH
-    )
+    let field = |name: &str| {
+        let rest = told.lines().find_map(|line| line.strip_prefix(name))?;
+        rest.split(':').nth(1).map(str::trim)
+    };
+    let name = match (
+        field("model name"),
+        field("CPU implementer"),
+        field("CPU part"),
+    ) {
+        (Some(name), _, _) => name.to_string(),
+        (None, Some(maker), Some(part)) => format!("processor of maker {maker}, part {part}"),
+        _ => "processor not named".to_string(),
+    };
+    format!("{name} ({})", std::env::consts::ARCH)
 }
 
 fn main() -> ExitCode {

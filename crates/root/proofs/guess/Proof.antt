@@ -1,4 +1,4 @@
--- `root::guess` meets its contract, which promises nothing of the answer: the two patterns that are read as floats are no NaN's.
+-- `root::guess` meets its contract, which promises nothing of the answer: the pattern that is read as a float is no NaN's.
 use mathlib.Core.Bool.{Bool, not}
 use mathlib.Core.Path.{sym, subst}
 use native.Mathlib.Omega.{arith}
@@ -7,12 +7,6 @@ use lib.Dec.{T}
 use Rattle.numbers.proofs.Nan.{pattern-number}
 use Rattle.root.proofs.guess.Statement.{statement}
 use Rattle.root.proofs.guess.Tie as tie
-
-add-bits : tie.Need-add-bits
-add-bits c = search needs
-
-float-from-bits-a : tie.Need-float-from-bits-a
-float-from-bits-a c = subst (λ (b : Bool). T (not b)) (sym (pattern-number _ (omega arith))) tt
 
 sub-y : tie.Need-sub-y
 sub-y c = search needs
@@ -24,4 +18,4 @@ returns : tie.Need-returns
 returns c = search needs
 
 pub guess-spec : {M : Type 1} → statement M
-guess-spec = tie.close (tie.spec add-bits float-from-bits-a sub-y float-from-bits-y returns)
+guess-spec = tie.close (tie.spec sub-y float-from-bits-y returns)
