@@ -7,7 +7,7 @@ use answers::records;
 use curve::curve::Curve;
 use lines::points;
 use lines::words::MOST;
-use query::single::Asked;
+use query::asked::Asked;
 use record::slots::SLOTS;
 
 // A line `b REFUSAL SECTIONS`: whether the build or growth went as it tells.
@@ -107,14 +107,14 @@ fn same(asked: Asked, refusal: u64, number: u64) -> bool {
 fn both(xs: &[f64], made: Curve, tags: &[u16], slots: &[f64], words: &[u64; MOST]) -> bool {
     let q = numbers::of_bits(words[1]);
     if !same(
-        query::single::value(xs, made, tags, slots, q),
+        queries::single::value(xs, made, tags, slots, q),
         words[2],
         words[3],
     ) {
         return false;
     }
     same(
-        query::single::primitive(xs, made, tags, slots, q),
+        queries::single::primitive(xs, made, tags, slots, q),
         words[2],
         words[4],
     )

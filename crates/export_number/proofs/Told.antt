@@ -13,8 +13,8 @@ use Rattle.record.specs.declared.refusal.Verdict.{Verdict}
 use Rattle.shape.specs.Making.{left}
 use Rattle.curve.specs.declared.curve.Curve.{Curve}
 use Rattle.query.specs.Query.{toldNumber}
-use Rattle.query.specs.declared.single.Asked.{Asked}
-use Rattle.query.specs.declared.single.Asked.the-variants as asked
+use Rattle.query.specs.declared.asked.Asked.{Asked}
+use Rattle.query.specs.declared.asked.Asked.the-variants as asked
 use Rattle.queries.specs.Many.{manyVerdict, answersAfter}
 use Rattle.export_number.specs.Asking as asking
 

@@ -9,8 +9,8 @@ use Rattle.record.specs.declared.refusal.Refusal.the-variants.{BufferTooShort}
 use Rattle.record.specs.declared.refusal.Verdict.{Verdict}
 use Rattle.record.specs.declared.refusal.Verdict.the-variants as verdict
 use Rattle.curve.specs.declared.curve.Curve.{Curve}
-use Rattle.query.specs.declared.single.Asked.{Asked}
-use Rattle.query.specs.declared.single.Asked.the-variants as asked
+use Rattle.query.specs.declared.asked.Asked.{Asked}
+use Rattle.query.specs.declared.asked.Asked.the-variants as asked
 
 -- a query reads the record and whether it may leave the knots, and no more
 abbrev pub curveWith : Float → Float → Float → Bool → Curve

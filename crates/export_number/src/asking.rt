@@ -1,6 +1,6 @@
 // Prices and running totals of a curve that was built.
 use curve::curve::Curve;
-use query::single::Asked;
+use query::asked::Asked;
 use record::refusal::Refusal;
 use shape::sections::Tail;
 ghost use mathlib.Core.Path.{_≡_};
@@ -58,7 +58,7 @@ pub extern "C" fn havgrunel_value(
     ensures answer { λ _. ⌜ now (answer .exit) ≡ numberLeft (roomed (ltb (length (now (answer .entry))) 1) (ask (λ s. value s x) (coveredAt (now (knots .entry)) (curveWith «tail_value» «tail_total» «tail_from» extrapolate) (now (tags .entry)) (now (slots .entry)) x))) (now (answer .entry)) ⌝ }
 {
     let curve = curve_with(tail_value, tail_total, tail_from, extrapolate);
-    tell(query::single::value(knots, curve, tags, slots, x), answer)
+    tell(queries::single::value(knots, curve, tags, slots, x), answer)
 }
 
 // The total of all prices up to x, into the first entry of `answer`.
@@ -79,7 +79,7 @@ pub extern "C" fn havgrunel_primitive(
 {
     let curve = curve_with(tail_value, tail_total, tail_from, extrapolate);
     tell(
-        query::single::primitive(knots, curve, tags, slots, x),
+        queries::single::primitive(knots, curve, tags, slots, x),
         answer,
     )
 }
@@ -89,5 +89,5 @@ pub extern "C" fn havgrunel_primitive(
 pub extern "C" fn havgrunel_derivative(x: f64) -> u8
     ensures { λ r. ⌜ r ≡ number Refusal.DerivativeAsked ⌝ }
 {
-    query::single::derivative(x).told().refusal
+    query::asked::derivative(x).told().refusal
 }

@@ -30,7 +30,7 @@ use Rattle.curve.specs.Curve.{toldCurve, withExtrapolation}
 use Rattle.query.specs.Query.{placeOf, coveredAt, ask, toldNumber}
 use Rattle.curve.specs.declared.curve.Curve.{Curve}
 use Rattle.curve.specs.declared.curve.ToldCurve.{ToldCurve}
-use Rattle.query.specs.declared.single.ToldNumber.{ToldNumber}
+use Rattle.query.specs.declared.asked.ToldNumber.{ToldNumber}
 use Rattle.sheets.specs.Sheet as sheet
 
 pub record Row : Type 0 where

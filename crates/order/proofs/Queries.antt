@@ -8,10 +8,10 @@ use Rattle.numbers.proofs.Ways.{never}
 use Rattle.section.specs.declared.section.Section.{Section}
 use Rattle.record.specs.declared.refusal.Refusal.{Refusal}
 use Rattle.query.specs.Query.{ask, toldNumber}
-use Rattle.query.specs.declared.single.Covered.{Covered}
-use Rattle.query.specs.declared.single.Covered.the-variants as covered
-use Rattle.query.specs.declared.single.Asked.{Asked}
-use Rattle.query.specs.declared.single.Asked.the-variants as asked
+use Rattle.query.specs.declared.asked.Covered.{Covered}
+use Rattle.query.specs.declared.asked.Covered.the-variants as covered
+use Rattle.query.specs.declared.asked.Asked.{Asked}
+use Rattle.query.specs.declared.asked.Asked.the-variants as asked
 use Rattle.order.specs.declared.asking.Line.{Line}
 
 abbrev lineFor : Asked → Asked → Line

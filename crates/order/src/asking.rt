@@ -1,8 +1,8 @@
 // What a query of an order is answered.
 use curve::curve::Curve;
-use query::single::Asked;
-use query::single::primitive;
-use query::single::value;
+use queries::single::primitive;
+use queries::single::value;
+use query::asked::Asked;
 ghost use mathlib.Core.Path.{_≡_};
 ghost use Rattle.order.specs.Answer.{lineOf};
 

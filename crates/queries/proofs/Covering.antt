@@ -14,7 +14,10 @@ use Rattle.numbers.proofs.Every.{all-at}
 use Rattle.numbers.proofs.Ways.{never}
 use Rattle.section.specs.declared.section.Section.{Section}
 use Rattle.record.specs.Refusal.{first, andThen}
-use Rattle.reading.specs.Number.{answerIn}
+use Rattle.reading.specs.Number.{answerIn, orNought}
+use Rattle.reading.specs.Reading.{recordAt}
+use Rattle.reading.specs.declared.number.Answer.{Answer}
+use Rattle.reading.specs.declared.number.Answer.the-variants as answer
 use Rattle.reading.specs.declared.reading.Found.{Found}
 use Rattle.reading.specs.declared.reading.Found.the-variants as found
 use Rattle.record.specs.declared.refusal.Refusal.{Refusal}
@@ -25,10 +28,13 @@ use Rattle.record.proofs.First.{both-accept, first-append}
 use Rattle.table.specs.Table.{at}
 use Rattle.curve.specs.declared.curve.Curve.{Curve}
 use Rattle.query.specs.Query.{curveTests, pointTests, queryTests, placeOf, tailSection, covering, coveredOf, coveredAt, ask, toldNumber}
-use Rattle.query.specs.declared.single.Covered.{Covered}
+use Rattle.query.specs.declared.asked.Asked.{Asked}
+use Rattle.query.specs.declared.asked.Asked.the-variants as asked
+use Rattle.query.specs.declared.asked.Covered.{Covered}
 use Rattle.query.proofs.Walk.{place-le}
-use Rattle.queries.specs.declared.many.Wanted.{Wanted}
-use Rattle.queries.specs.Many.{verdictOf, firstRefused, answerAt, figure, recordAt, isLegal, numberIn, numberOrNought}
+use Rattle.queries.specs.declared.number.Wanted.{Wanted}
+use Rattle.queries.specs.Number.{figure}
+use Rattle.queries.specs.Many.{verdictOf, firstRefused, answerAt, isLegal}
 
 -- ---- the first refusal of many
 
@@ -75,14 +81,24 @@ either-legal : (b : Bool) (s : Section) (f : Found) → isLegal f ≡ true → i
 either-legal true s f h = refl
 either-legal false s f h = h
 
-number-of-found : (w : Wanted) (q : Float) (f : Found) → toldNumber (ask (λ s. figure w s q) (coveredOf Accepted f)) .answer ≡ numberIn f w q
-number-of-found w q (found.Section s) = refl
-number-of-found w q found.Illegal = refl
+-- what is asked of a query that passed its tests, by what the section that covers it answers
+abbrev askedOf : Answer → Asked
+askedOf (answer.Number n) = asked.Number n
+askedOf answer.Illegal = asked.Refused RecordNotLegal
 
--- the number of a record, asked of its slots
-pub number-of-slots : (w : Wanted) (q : Float) (f : Found) → numberOrNought (answerIn (λ s. figure w s q) f) ≡ numberIn f w q
-number-of-slots w q (found.Section s) = refl
-number-of-slots w q found.Illegal = refl
+asked-of-found : (f : Section → Float) (k : Found) → askedOf (answerIn f k) ≡ ask f (coveredOf Accepted k)
+asked-of-found f (found.Section s) = refl
+asked-of-found f found.Illegal = refl
+
+pub answered : (f : Section → Float) (v : Verdict) (k : Found) (n : Answer) → v ≡ Accepted → answerIn f k ≡ n → askedOf n ≡ ask f (coveredOf v k)
+answered f v k n e h = ap askedOf (sym h) ∙ asked-of-found f k ∙ ap (λ (u : Verdict). ask f (coveredOf u k)) (sym e)
+
+pub not-answered : (f : Section → Float) (v : Verdict) (r : Refusal) (k : Found) → v ≡ Refused r → asked.Refused r ≡ ask f (coveredOf v k)
+not-answered f v r k e = rw e refl
+
+number-of-found : (f : Section → Float) (k : Found) → toldNumber (ask f (coveredOf Accepted k)) .answer ≡ orNought (answerIn f k)
+number-of-found f (found.Section s) = refl
+number-of-found f found.Illegal = refl
 
 module _ (x : List Float) (curve : Curve) (tags : List ℕ) (slots : List Float) (q : Float) where
   -- every record legal, and so the one that answers
@@ -100,6 +116,12 @@ module _ (x : List Float) (curve : Curve) (tags : List ℕ) (slots : List Float)
   unfolding covering
   before-the-last h = rw h refl
 
+  -- a query that passed its tests is of a curve that did
+  pub of-the-curve : first (queryTests x curve (length tags) (length slots) q) ≡ Accepted → first (curveTests x (length tags) (length slots)) ≡ Accepted
+  of-the-curve h =
+      both-accept (first (curveTests x (length tags) (length slots))) (first (pointTests x curve q))
+      (sym (first-append (curveTests x (length tags) (length slots)) (pointTests x curve q)) ∙ h) .0
+
   -- the curve's tests passed, only the query's are left
   pub of-the-point : first (curveTests x (length tags) (length slots)) ≡ Accepted →
       coveredAt x curve tags slots q ≡ coveredOf (first (pointTests x curve q)) (covering x curve tags slots q)
@@ -113,21 +135,21 @@ module _ (x : List Float) (curve : Curve) (tags : List ℕ) (slots : List Float)
 
   -- a query that is not refused is told the number that its record has
   pub told : (w : Wanted) → first (curveTests x (length tags) (length slots)) ≡ Accepted → verdictOf (coveredAt x curve tags slots q) ≡ Accepted →
-      answerAt (figure w) x curve tags slots q ≡ numberIn (covering x curve tags slots q) w q
+      answerAt (figure w) x curve tags slots q ≡ orNought (answerIn (λ s. figure w s q) (covering x curve tags slots q))
   told w h g =
       let e = of-the-point h in
       let v = verdict-point (first (pointTests x curve q)) (covering x curve tags slots q) (ap verdictOf (sym e) ∙ g) in
       ap (λ (k : Covered). toldNumber (ask (λ s. figure w s q) k) .answer) (e ∙ ap (λ (u : Verdict). coveredOf u (covering x curve tags slots q)) v)
-      ∙ number-of-found w q (covering x curve tags slots q)
+      ∙ number-of-found (λ s. figure w s q) (covering x curve tags slots q)
 
   -- so with the number of the curve's own record, from the last knot on
   pub tail-told : (w : Wanted) → first (curveTests x (length tags) (length slots)) ≡ Accepted → verdictOf (coveredAt x curve tags slots q) ≡ Accepted →
       le (at x (length x - 1)) q ≡ true → (v : Float) → v ≡ figure w (tailSection curve) q → v ≡ answerAt (figure w) x curve tags slots q
-  tail-told w h g b v e = e ∙ sym (told w h g ∙ ap (λ (f : Found). numberIn f w q) (from-the-last b))
+  tail-told w h g b v e = e ∙ sym (told w h g ∙ ap (λ (f : Found). orNought (answerIn (λ s. figure w s q) f)) (from-the-last b))
 
   -- and with that of the record at its place before it
   pub place-told : (w : Wanted) → first (curveTests x (length tags) (length slots)) ≡ Accepted → verdictOf (coveredAt x curve tags slots q) ≡ Accepted →
-      le (at x (length x - 1)) q ≡ false → (v : Float) (p : ℕ) → p ≡ placeOf x q → v ≡ numberIn (recordAt tags slots p) w q →
+      le (at x (length x - 1)) q ≡ false → (v : Float) (p : ℕ) → p ≡ placeOf x q → v ≡ orNought (answerIn (λ s. figure w s q) (recordAt tags slots p)) →
       v ≡ answerAt (figure w) x curve tags slots q
   place-told w h g b v p i e =
-      e ∙ ap (λ (k : Found). numberIn k w q) (ap (recordAt tags slots) i ∙ sym (before-the-last b)) ∙ sym (told w h g)
+      e ∙ ap (λ (k : Found). orNought (answerIn (λ s. figure w s q) k)) (ap (recordAt tags slots) i ∙ sym (before-the-last b)) ∙ sym (told w h g)

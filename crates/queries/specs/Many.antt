@@ -1,19 +1,13 @@
 -- Many queries of one curve. Each gets the number that it gets by itself, and the first that is refused refuses all.
-use Prim.Native.Nat.{ℕ, zero, suc, _+_, _-_, _*_}
+use Prim.Native.Nat.{ℕ, zero, suc, _+_, _-_}
 use mathlib.Core.Bool.{Bool, true, false, not, _&&_, _||_}
 use mathlib.Core.List.{List, [], _∷_, _++_}
 use lib.Dec.{eqb, ltb, leb}
 use lib.Ieee.{Float, lt}
-use lib.ListN.{length, take, drop, getD}
+use lib.ListN.{length}
 use Rattle.numbers.specs.Overlay.{overlay}
-use Rattle.numbers.specs.Words.{nought}
-use Rattle.section.specs.Section.{value, primitive}
 use Rattle.section.specs.declared.section.Section.{Section}
-use Rattle.reading.specs.Reading.{readSection}
 use Rattle.record.specs.Refusal.{Test, _⇒_, first, andThen}
-use Rattle.record.specs.Slots.{slotCount}
-use Rattle.reading.specs.declared.number.Answer.{Answer}
-use Rattle.reading.specs.declared.number.Answer.the-variants as answer
 use Rattle.reading.specs.declared.reading.Found.{Found}
 use Rattle.reading.specs.declared.reading.Found.the-variants as found
 use Rattle.record.specs.declared.refusal.Refusal.the-variants.{BufferTooShort}
@@ -22,10 +16,8 @@ use Rattle.record.specs.declared.refusal.Verdict.the-variants as verdict
 use Rattle.table.specs.Table.{at}
 use Rattle.curve.specs.declared.curve.Curve.{Curve}
 use Rattle.query.specs.Query.{curveTests, coveredAt, ask, toldNumber}
-use Rattle.query.specs.declared.single.Covered.{Covered}
-use Rattle.query.specs.declared.single.Covered.the-variants as covered
-use Rattle.queries.specs.declared.many.Wanted.{Wanted}
-use Rattle.queries.specs.declared.many.Wanted.the-variants as wanted
+use Rattle.query.specs.declared.asked.Covered.{Covered}
+use Rattle.query.specs.declared.asked.Covered.the-variants as covered
 
 abbrev pub verdictOf : Covered → Verdict
 verdictOf (covered.Section s) = verdict.Accepted
@@ -55,25 +47,10 @@ answerAt f x curve tags slots q = toldNumber (ask (λ s. f s q) (coveredAt x cur
 abbrev pub answersAfter : (Section → Float → Float) → List Float → Curve → List ℕ → List Float → List Float → List Float → List Float
 answersAfter f x curve tags slots qs out = overlay 0 (length qs) (λ i. answerAt f x curve tags slots (at qs i)) out
 
-abbrev pub figure : Wanted → Section → Float → Float
-figure wanted.Price = value
-figure wanted.Total = primitive
-
--- the record of a section, and what it answers
-abbrev pub recordAt : List ℕ → List Float → ℕ → Found
-recordAt tags slots i = readSection (getD tags i 0) (take slotCount (drop (slotCount * i) slots))
-
+-- whether a record is one of a section
 abbrev pub isLegal : Found → Bool
 isLegal (found.Section s) = true
 isLegal found.Illegal = false
-
-abbrev pub numberIn : Found → Wanted → Float → Float
-numberIn (found.Section s) w q = figure w s q
-numberIn found.Illegal w q = nought
-
-abbrev pub numberOrNought : Answer → Float
-numberOrNought (answer.Number v) = v
-numberOrNought answer.Illegal = nought
 
 -- whether a query lies in section i: not below its first knot, and below its last, as far as these are inner knots
 abbrev pub covers : List Float → Float → ℕ → Bool

@@ -1,47 +1,30 @@
 // Prices, or running totals, at many points of one curve. The knots are checked once, and nothing is written where any query is refused.
+use crate::number::Wanted;
+use crate::number::record_number;
+use crate::number::tail_number;
 use crate::place::place_from;
 use crate::place::search;
 use curve::curve::Curve;
-use query::single::curve_verdict;
-use query::single::point_verdict;
-use reading::number::Answer;
-use reading::number::primitive_in;
-use reading::number::value_in;
+use query::asked::curve_verdict;
+use query::asked::point_verdict;
 use reading::reading::Found;
 use reading::reading::read_section;
 use record::refusal::Refusal;
 use record::refusal::Verdict;
 use record::slots::SLOTS;
-use section::everywhere_constant::EverywhereConstant;
-use section::section::Section;
 ghost use mathlib.Core.Path.{_≡_};
 ghost use mathlib.Core.Bool.{true};
-ghost use Prim.Native.Nat.{ℕ, _+_, _-_, _*_, _≤_, _<_};
+ghost use Prim.Native.Nat.{_+_, _-_, _*_, _≤_, _<_};
 ghost use lib.ListN.{length};
 ghost use Rattle.numbers.specs.Every.{allBelow};
 ghost use Rattle.section.specs.Section.{value, primitive};
-ghost use Rattle.reading.specs.Reading.{readSection};
+ghost use Rattle.reading.specs.Reading.{recordAt};
 ghost use Rattle.record.specs.Refusal.{first};
 ghost use Rattle.record.specs.declared.refusal.Verdict.the-variants.{Accepted};
 ghost use Rattle.shape.specs.Making.{left};
-ghost use Rattle.table.specs.Table.{at};
-ghost use Rattle.query.specs.Query.{curveTests, tailSection, covering, coveredAt};
-ghost use Rattle.queries.specs.Many.{numberIn, numberOrNought, verdictOf, manyTests, queriesVerdict, manyVerdict, answersAfter, figure, recordAt, isLegal};
-
-// What is asked at each point.
-pub enum Wanted {
-    Price,
-    Total,
-}
-
-fn figure(wanted: Wanted, section: Section, q: f64) -> f64
-    ensures { λ r. ⌜ r ≡ figure wanted section q ⌝ }
-{
-    match wanted {
-        Wanted::Price => section.value(q),
-        Wanted::Total => section.primitive(q),
-    }
-}
+ghost use Rattle.query.specs.Query.{curveTests, covering, coveredAt};
+ghost use Rattle.queries.specs.Number.{figure};
+ghost use Rattle.queries.specs.Many.{verdictOf, queriesVerdict, manyVerdict, answersAfter, isLegal};
 
 fn read_at(tags: &[u16], slots: &[f64], i: usize) -> Found
     requires { ⌜ (i < length (now tags)) × (24 * i + 24 ≤ length (now slots)) × (i < 4096) ⌝ }
@@ -142,45 +125,6 @@ fn queries_verdict(xs: &[f64], curve: Curve, tags: &[u16], slots: &[f64], qs: &[
     Verdict::Accepted
 }
 
-// What a record answers, as one number: the queries that come here have one that is legal.
-fn number_in(wanted: Wanted, tag: u16, slots: &[f64], q: f64) -> f64
-    ensures { λ r. ⌜ r ≡ numberIn (readSection tag (now (slots .entry))) wanted q ⌝ }
-{
-    match wanted {
-        Wanted::Price => number_or_nought(value_in(tag, slots, q)),
-        Wanted::Total => number_or_nought(primitive_in(tag, slots, q)),
-    }
-}
-
-fn number_or_nought(answer: Answer) -> f64
-    ensures { λ r. ⌜ r ≡ numberOrNought answer ⌝ }
-{
-    match answer {
-        Answer::Number(number) => number,
-        Answer::Illegal => 0.0,
-    }
-}
-
-fn number_at(wanted: Wanted, tags: &[u16], slots: &[f64], i: usize, q: f64) -> f64
-    requires { ⌜ (i < length (now tags)) × (24 * i + 24 ≤ length (now slots)) × (i < 4096) ⌝ }
-    ensures { λ r. ⌜ r ≡ numberIn (recordAt (now (tags .entry)) (now (slots .entry)) i) wanted q ⌝ }
-{
-    let from = SLOTS * i;
-    number_in(wanted, tags[i], &slots[from..from + SLOTS], q)
-}
-
-// What the curve's own record answers, from the last knot on.
-fn tail_number(curve: Curve, wanted: Wanted, q: f64) -> f64
-    ensures { λ r. ⌜ r ≡ figure wanted (tailSection curve) q ⌝ }
-{
-    let tail = curve.tail;
-    figure(
-        wanted,
-        Section::EverywhereConstant(EverywhereConstant::new(tail.value, tail.total, tail.from)),
-        q,
-    )
-}
-
 // Writes the answers of queries that were not refused, each found from the place of the one before it.
 fn fill(
     wanted: Wanted,
@@ -204,7 +148,7 @@ fn fill(
             continue;
         }
         at = place_from(xs, q, at);
-        out[i] = number_at(wanted, tags, slots, at, q);
+        out[i] = record_number(wanted, tags, slots, at, q).or_nought();
     }
 }
 

@@ -26,9 +26,9 @@ use Rattle.query.specs.Query.{queryTests, outside, placeOf, tailSection,
 use Rattle.shape.specs.Sections.{sectionAt, tagAt, slotAt}
 use Rattle.shape.proofs.ReadBack.{record-read-back}
 use Rattle.curve.specs.declared.curve.Curve.{Curve}
-use Rattle.query.specs.declared.single.Covered.{Covered}
-use Rattle.query.specs.declared.single.Covered.the-variants as covered
-use Rattle.query.specs.declared.single.Asked.the-variants as asked
+use Rattle.query.specs.declared.asked.Covered.{Covered}
+use Rattle.query.specs.declared.asked.Covered.the-variants as covered
+use Rattle.query.specs.declared.asked.Asked.the-variants as asked
 use Rattle.curve.proofs.Accepted.{fits}
 use Rattle.query.proofs.Answers.{found-here}
 use Rattle.query.proofs.Walk.{place-le}

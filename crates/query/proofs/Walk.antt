@@ -1,27 +1,12 @@
--- The walk over the inner knots, step by step, and how far it goes.
-use Prim.Native.Nat.{ℕ, zero, suc, _+_, _-_, _≤_, _<_}
+-- How far the walk over the inner knots goes.
+use Prim.Native.Nat.{ℕ, zero, suc, _+_, _-_, _≤_}
 use native.Mathlib.Omega.{arith}
 use mathlib.Core.Bool.{Bool, true, false, cond}
 use mathlib.Core.List.{List}
-use mathlib.Core.Path.{_≡_, refl, ap}
 use lib.Ieee.{Float, lt}
 use lib.ListN.{length}
 use Rattle.table.specs.Table.{at}
 use Rattle.query.specs.Query.{walk, placeOf}
-
-pub walk-end : (x : List Float) (q : Float) (i left : ℕ) → left ≡ 0 → walk x q i left ≡ i
-unfolding walk
-walk-end x q i left e = rw e
-
-pub walk-here : (x : List Float) (q : Float) (i left : ℕ) → 0 < left → lt q (at x (i + 1)) ≡ true → walk x q i left ≡ i
-unfolding walk
-walk-here x q i zero p h = absurd (omega arith)
-walk-here x q i (suc left) p h = rw h
-
-pub walk-on : (x : List Float) (q : Float) (i left : ℕ) → 0 < left → lt q (at x (i + 1)) ≡ false → walk x q i left ≡ walk x q (i + 1) (left - 1)
-unfolding walk
-walk-on x q i zero p h = absurd (omega arith)
-walk-on x q i (suc left) p h = let e : left ≡ suc left - 1 = omega arith in rw h (ap (λ (n : ℕ). walk x q (i + 1) n) e)
 
 either : (b : Bool) (m n k : ℕ) → m ≤ k → n ≤ k → cond b m n ≤ k
 either true m n k h g = h

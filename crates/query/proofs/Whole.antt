@@ -19,7 +19,7 @@ use Rattle.curve.specs.declared.curve.Curve.{Curve}
 use Rattle.curve.specs.declared.curve.Built.the-variants as built
 use Rattle.growth.specs.declared.growth.Carried.{Carried}
 use Rattle.growth.specs.declared.growth.Carried.the-variants as carried
-use Rattle.query.specs.declared.single.Asked.the-variants as asked
+use Rattle.query.specs.declared.asked.Asked.the-variants as asked
 use Rattle.query.proofs.ReadBack.{answering, asked-of-built}
 
 module _ (x y : List Float) (method : ConvexMonotone) (hold : Bool) (seam : Seam) (nodes : List Float) (tags : List ℕ) (slots : List Float) where

@@ -4,13 +4,13 @@ use mathlib.Core.Bool.{Bool, true, false, cond, not, _&&_, _||_}
 use mathlib.Core.List.{List, [], _∷_, _++_}
 use lib.Dec.{eqb, ltb, leb}
 use lib.Ieee.{Float, lt, le, ne}
-use lib.ListN.{length, take, drop, getD}
+use lib.ListN.{length}
 use Rattle.numbers.specs.Words.{nought}
 use Rattle.section.specs.EverywhereConstant as constant
 use Rattle.section.specs.Section as section
 use Rattle.section.specs.declared.section.Section.{Section}
 use Rattle.section.specs.declared.section.Section.the-variants as kind
-use Rattle.reading.specs.Reading.{readSection}
+use Rattle.reading.specs.Reading.{recordAt}
 use Rattle.record.specs.Refusal.{Test, _⇒_, first, number}
 use Rattle.record.specs.Slots.{slotCount}
 use Rattle.reading.specs.declared.reading.Found.{Found}
@@ -22,11 +22,11 @@ use Rattle.record.specs.declared.refusal.Verdict.the-variants as verdict
 use Rattle.table.specs.Check.{allFinite, rising}
 use Rattle.table.specs.Table.{at}
 use Rattle.curve.specs.declared.curve.Curve.{Curve}
-use Rattle.query.specs.declared.single.Covered.{Covered}
-use Rattle.query.specs.declared.single.Covered.the-variants as covered
-use Rattle.query.specs.declared.single.Asked.{Asked}
-use Rattle.query.specs.declared.single.Asked.the-variants as asked
-use Rattle.query.specs.declared.single.ToldNumber.{ToldNumber}
+use Rattle.query.specs.declared.asked.Covered.{Covered}
+use Rattle.query.specs.declared.asked.Covered.the-variants as covered
+use Rattle.query.specs.declared.asked.Asked.{Asked}
+use Rattle.query.specs.declared.asked.Asked.the-variants as asked
+use Rattle.query.specs.declared.asked.ToldNumber.{ToldNumber}
 
 -- inside the knots, or allowed outside them
 abbrev pub outside : List Float → Curve → Float → Bool
@@ -65,7 +65,7 @@ unfoldable pub covering : List Float → Curve → List ℕ → List Float → F
 unfolding walk
 covering x curve tags slots q =
     cond (le (at x (length x - 1)) q) (found.Section (tailSection curve))
-    (let i = placeOf x q in readSection (getD tags i 0) (take slotCount (drop (slotCount * i) slots)))
+    (recordAt tags slots (placeOf x q))
 
 -- 15 comes last
 abbrev pub coveredOf : Verdict → Found → Covered

@@ -1,2 +1,2 @@
-// Queries of a curve that was built: its price at a point, and the total up to it.
-pub mod single;
+// Queries of a curve that was built: what each is refused for, and what kind of answer it gets. `queries` answers them.
+pub mod asked;

@@ -1,6 +1,5 @@
 // The lines about one section or one curve: first how it is made, then its records, then what it answers.
 use crate::seen::Seen;
-use answers::queries;
 use answers::records;
 use answers::records::Record;
 use answers::roots;
@@ -135,7 +134,7 @@ impl State {
         let seen = self.seen;
         let record = self.record;
         self.with(
-            seen.query(queries::agrees(record, words[0], words[1], words[2])),
+            seen.query(answers::queries::agrees(record, words[0], words[1], words[2])),
             subject,
         )
     }

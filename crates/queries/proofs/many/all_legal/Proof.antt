@@ -8,7 +8,8 @@ use borrow.Author.Tests.{not-true, not-false}
 use lib.ListN.{length}
 use Rattle.numbers.specs.Every.{allBelow}
 use Rattle.numbers.proofs.Every.{all-none, all-more, all-fails}
-use Rattle.queries.specs.Many.{isLegal, recordAt}
+use Rattle.reading.specs.Reading.{recordAt}
+use Rattle.queries.specs.Many.{isLegal}
 use Rattle.queries.proofs.many.all_legal.Statement.{statement}
 use Rattle.queries.proofs.many.all_legal.Tie as tie
 

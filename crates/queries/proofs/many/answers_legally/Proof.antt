@@ -3,9 +3,10 @@ use native.Mathlib.Omega.{arith}
 use mathlib.Core.Path.{sym, ap, _∙_}
 use borrow.Author.Needs.{needs}
 use lib.ListN.{length}
+use Rattle.reading.specs.Reading.{recordAt}
 use Rattle.query.proofs.Answers.{Reaches, reached}
 use Rattle.query.proofs.Walk.{place-le}
-use Rattle.queries.specs.Many.{isLegal, recordAt}
+use Rattle.queries.specs.Many.{isLegal}
 use Rattle.queries.proofs.Covering.{from-the-last, before-the-last}
 use Rattle.queries.proofs.many.answers_legally.Statement.{statement}
 use Rattle.queries.proofs.many.answers_legally.Tie as tie

@@ -6,12 +6,14 @@ use borrow.Author.Needs.{needs}
 use lib.ListN.{length, length-set}
 use Rattle.numbers.specs.Overlay.{overlay}
 use Rattle.numbers.proofs.Overlay.{overlay-none, overlay-more}
+use Rattle.reading.specs.Number.{orNought}
 use Rattle.record.specs.declared.refusal.Verdict.the-variants.{Accepted}
 use Rattle.table.specs.Table.{at}
 use Rattle.query.specs.Query.{coveredAt}
 use Rattle.query.proofs.Answers.{Reaches, reached}
 use Rattle.query.proofs.Walk.{place-le}
-use Rattle.queries.specs.Many.{verdictOf, answerAt, figure}
+use Rattle.queries.specs.Number.{figure}
+use Rattle.queries.specs.Many.{verdictOf, answerAt}
 use Rattle.queries.proofs.Covering.{all-accepted, tail-told, place-told}
 use Rattle.queries.proofs.many.fill.Statement.{statement}
 use Rattle.queries.proofs.many.fill.Tie as tie
@@ -52,21 +54,21 @@ loop-again c =
 
 loop-again-2 : tie.Need-loop-again-2 Inv-loop μ-loop
 loop-again-2 c =
-    let l = c .before .before .before .before .before .loop in
-    let a = c .before .before .before .before .before .before .before .before .before .before .before .before .args in
-    let h : l .i < length (a .qs .now) = omega (arith, l .inv .1, c .before .before .before .before .loop-test .taken) in (
-      omega (arith, c .before .before .before .before .loop-test .taken),
+    let l = c .before .before .before .before .before .before .loop in
+    let a = c .before .before .before .before .before .before .before .before .before .before .before .before .before .args in
+    let h : l .i < length (a .qs .now) = omega (arith, l .inv .1, c .before .before .before .before .before .loop-test .taken) in (
+      omega (arith, c .before .before .before .before .before .loop-test .taken),
       l .inv .1,
-      omega (arith, fits (c .before .before .before .before .before .before .before .before .before .before .before .before) .low, place-le (a .xs .now) (at (a .qs .now) (l .i)), c .before .place-from .ensures),
+      omega (arith, fits (c .before .before .before .before .before .before .before .before .before .before .before .before .before) .low, place-le (a .xs .now) (at (a .qs .now) (l .i)), c .before .before .place-from .ensures),
       simp length-set (l .inv .3),
       overlay-more 0 (l .i) _ _ _ _ _ (l .inv .4) (omega arith)
-          (place-told (a .xs .now) (a .curve) (a .tags .now) (a .slots .now) (at (a .qs .now) (l .i)) (a .wanted) (c .before .before .before .before .before .before .before .before .before .before .before .before .pre .0) (fine (c .before .before .before .before .before .before .before .before .before .before .before .before) (l .i) h) (c .before .before .if1 .left)
-          _ _ (c .before .place-from .ensures) (c .number-at .ensures)),
+          (place-told (a .xs .now) (a .curve) (a .tags .now) (a .slots .now) (at (a .qs .now) (l .i)) (a .wanted) (c .before .before .before .before .before .before .before .before .before .before .before .before .before .pre .0) (fine (c .before .before .before .before .before .before .before .before .before .before .before .before .before) (l .i) h) (c .before .before .before .if1 .left)
+          _ _ (c .before .before .place-from .ensures) (c .or-nought .ensures ∙ ap orNought (c .before .record-number .ensures))),
     )
 
 -- the place that was found has a record
-number-at-requires : tie.Need-number-at-requires Inv-loop μ-loop
-number-at-requires c κs =
+record-number-requires : tie.Need-record-number-requires Inv-loop μ-loop
+record-number-requires c κs =
     let l = c .before .before .before .before .loop in
     let a = c .before .before .before .before .before .before .before .before .before .before .before .args in
     let f = fits (c .before .before .before .before .before .before .before .before .before .before .before) in
@@ -100,11 +102,12 @@ fill-spec =
     (λ c. omega (arith, c .before .before .before .loop-test .taken))
     loop-again
     (λ c κs. let l = c .before .before .before .loop in (l .inv .2, fits (c .before .before .before .before .before .before .before .before .before .before) .high, fits (c .before .before .before .before .before .before .before .before .before .before) .up))
-    number-at-requires
+    record-number-requires
+    (λ c κs. search needs)
     (λ c. search needs)
-    (λ c. let l = c .before .before .before .before .before .loop in omega (arith, l .inv .1, l .inv .3, c .before .before .before .before .loop-test .taken, c .before .before .before .before .before .before .before .before .before .before .before .before .pre .1 .1))
+    (λ c. let l = c .before .before .before .before .before .before .loop in omega (arith, l .inv .1, l .inv .3, c .before .before .before .before .before .loop-test .taken, c .before .before .before .before .before .before .before .before .before .before .before .before .before .pre .1 .1))
     (λ c. search needs)
-    (λ c. omega (arith, c .before .before .before .before .loop-test .taken))
+    (λ c. omega (arith, c .before .before .before .before .before .loop-test .taken))
     loop-again-2
     (λ c. c .before .loop .inv .3)
     returns)
