@@ -1,21 +1,16 @@
--- What is told of a query's answer, case by case, and of many.
+-- What is told of a query's answer, case by case.
 use Prim.Native.Nat.{ℕ}
 use mathlib.Core.Bool.{Bool, true, false}
 use mathlib.Core.List.{List}
-use mathlib.Core.Path.{_≡_, ap, _∙_}
+use mathlib.Core.Path.{_≡_}
 use lib.Ieee.{Float}
-use lib.ListN.{length, set}
-use Rattle.section.specs.declared.section.Section.{Section}
+use lib.ListN.{set}
 use Rattle.record.specs.Refusal.{number}
 use Rattle.record.specs.declared.refusal.Refusal.{Refusal}
 use Rattle.record.specs.declared.refusal.Refusal.the-variants.{BufferTooShort}
-use Rattle.record.specs.declared.refusal.Verdict.{Verdict}
-use Rattle.shape.specs.Making.{left}
-use Rattle.curve.specs.declared.curve.Curve.{Curve}
 use Rattle.query.specs.Query.{toldNumber}
 use Rattle.query.specs.declared.asked.Asked.{Asked}
 use Rattle.query.specs.declared.asked.Asked.the-variants as asked
-use Rattle.queries.specs.Many.{manyVerdict, answersAfter}
 use Rattle.export_number.specs.Asking as asking
 
 -- a query's answer: refused, refused for want of room, or written
@@ -36,10 +31,3 @@ pub query-told : (short : Bool) (j k : Asked) (n : ℕ) (new old : List Float) �
     (n ≡ toldNumber (asking.roomed short j) .refusal) × (new ≡ asking.numberLeft (asking.roomed short j) old) →
     (n ≡ toldNumber (asking.roomed short k) .refusal) × (new ≡ asking.numberLeft (asking.roomed short k) old)
 query-told short j k n new old e p = (rw e at (p .0), rw e at (p .1))
-
--- many queries: the library's verdict and answers, of the curve that crossed
-pub many-told : (f : Section → Float → Float) (x : List Float) (j k : Curve) (tags : List ℕ) (slots qs old : List Float) (v : Verdict) (new : List Float) (n : ℕ) → j ≡ k →
-    (v ≡ manyVerdict x j tags slots qs (length old)) × (new ≡ left (manyVerdict x j tags slots qs (length old)) (answersAfter f x j tags slots qs old) old) →
-    n ≡ asking.verdictNumber v →
-    (n ≡ asking.verdictNumber (manyVerdict x k tags slots qs (length old))) × (new ≡ left (manyVerdict x k tags slots qs (length old)) (answersAfter f x k tags slots qs old) old)
-many-told f x j k tags slots qs old v new n e p g = (g ∙ ap asking.verdictNumber (rw e at (p .0)), rw e at (p .1))

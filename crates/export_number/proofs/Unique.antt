@@ -8,12 +8,9 @@ use denote.Ref.{now}
 use Rattle.export_number.proofs.square_root.havgrunel_sqrt as sqrt
 use Rattle.export_number.proofs.square_root.havgrunel_sqrt.Kinds as sqrt-kinds
 use Rattle.export_number.proofs.square_root.havgrunel_sqrt.Reads as sqrt-reads
-use Rattle.export_number.proofs.many.havgrunel_values as values
-use Rattle.export_number.proofs.many.havgrunel_values.Kinds as values-kinds
-use Rattle.export_number.proofs.many.havgrunel_values.Reads as values-reads
-use Rattle.export_number.proofs.many.havgrunel_primitives as primitives
-use Rattle.export_number.proofs.many.havgrunel_primitives.Kinds as primitives-kinds
-use Rattle.export_number.proofs.many.havgrunel_primitives.Reads as primitives-reads
+use Rattle.export_number.proofs.asking.curve_with
+use Rattle.export_number.proofs.asking.curve_with.Kinds as curve-with-kinds
+use Rattle.export_number.proofs.asking.curve_with.Reads as curve-with-reads
 use Rattle.export_number.proofs.asking.havgrunel_value as value
 use Rattle.export_number.proofs.asking.havgrunel_value.Kinds as value-kinds
 use Rattle.export_number.proofs.asking.havgrunel_value.Reads as value-reads
@@ -36,6 +33,10 @@ use Rattle.export_number.proofs.settings.havgrunel_default_positivity.R
 pub sqrt-unique : (κs : Lifetimes.Lfts 0) (a : World.ArgsD sqrt.signature κs) (r₁ r₂ : World.ResD sqrt.signature κs)
     (s t : Clauses.AtExit (K.endedOf 0 sqrt-kinds.ps sqrt-kinds.r) κs) → sqrt-reads.Post κs a r₁ s → sqrt-reads.Post κs a r₂ t → r₁ ≡ r₂
 sqrt-unique κs a r₁ r₂ s t p q = p ∙ sym q
+
+pub curve-with-unique : (κs : Lifetimes.Lfts 0) (a : World.ArgsD curve_with.signature κs) (r₁ r₂ : World.ResD curve_with.signature κs)
+    (s t : Clauses.AtExit (K.endedOf 0 curve-with-kinds.ps curve-with-kinds.r) κs) → curve-with-reads.Post κs a r₁ s → curve-with-reads.Post κs a r₂ t → r₁ ≡ r₂
+curve-with-unique κs a r₁ r₂ s t p q = p ∙ sym q
 
 pub value-unique : (κs : Lifetimes.Lfts 4) (a : World.ArgsD value.signature κs) (r₁ r₂ : World.ResD value.signature κs)
     (s t : Clauses.AtExit (K.endedOf 4 value-kinds.ps value-kinds.r) κs) → value-reads.Post κs a r₁ s → value-reads.Post κs a r₂ t →
@@ -62,13 +63,3 @@ default-monotonicity-unique κs a r₁ r₂ s t p q = p ∙ sym q
 pub default-positivity-unique : (κs : Lifetimes.Lfts 0) (a : World.ArgsD default-positivity.signature κs) (r₁ r₂ : World.ResD default-positivity.signature κs)
     (s t : Clauses.AtExit (K.endedOf 0 default-positivity-kinds.ps default-positivity-kinds.r) κs) → default-positivity-reads.Post κs a r₁ s → default-positivity-reads.Post κs a r₂ t → r₁ ≡ r₂
 default-positivity-unique κs a r₁ r₂ s t p q = p ∙ sym q
-
-pub values-unique : (κs : Lifetimes.Lfts 5) (a : World.ArgsD values.signature κs) (r₁ r₂ : World.ResD values.signature κs)
-    (s t : Clauses.AtExit (K.endedOf 5 values-kinds.ps values-kinds.r) κs) → values-reads.Post κs a r₁ s → values-reads.Post κs a r₂ t →
-    (r₁ ≡ r₂) × (now (s .1 .1 .1 .1 .1 .1 .1 .1 .0) ≡ now (t .1 .1 .1 .1 .1 .1 .1 .1 .0))
-values-unique κs a r₁ r₂ s t p q = (p .0 ∙ sym (q .0), p .1 ∙ sym (q .1))
-
-pub primitives-unique : (κs : Lifetimes.Lfts 5) (a : World.ArgsD primitives.signature κs) (r₁ r₂ : World.ResD primitives.signature κs)
-    (s t : Clauses.AtExit (K.endedOf 5 primitives-kinds.ps primitives-kinds.r) κs) → primitives-reads.Post κs a r₁ s → primitives-reads.Post κs a r₂ t →
-    (r₁ ≡ r₂) × (now (s .1 .1 .1 .1 .1 .1 .1 .1 .0) ≡ now (t .1 .1 .1 .1 .1 .1 .1 .1 .0))
-primitives-unique κs a r₁ r₂ s t p q = (p .0 ∙ sym (q .0), p .1 ∙ sym (q .1))

@@ -1,13 +1,9 @@
 -- 01, Queries, settings and growth: what a query reads of a curve, and where its answer goes
-use Prim.Native.Nat.{ℕ}
 use mathlib.Core.Bool.{Bool, false, cond}
 use mathlib.Core.List.{List}
 use lib.Ieee.{Float}
 use lib.ListN.{set}
-use Rattle.record.specs.Refusal.{number}
 use Rattle.record.specs.declared.refusal.Refusal.the-variants.{BufferTooShort}
-use Rattle.record.specs.declared.refusal.Verdict.{Verdict}
-use Rattle.record.specs.declared.refusal.Verdict.the-variants as verdict
 use Rattle.curve.specs.declared.curve.Curve.{Curve}
 use Rattle.query.specs.declared.asked.Asked.{Asked}
 use Rattle.query.specs.declared.asked.Asked.the-variants as asked
@@ -24,8 +20,3 @@ roomed short (asked.Refused r) = asked.Refused r
 abbrev pub numberLeft : Asked → List Float → List Float
 numberLeft (asked.Number v) old = set old 0 v
 numberLeft (asked.Refused r) old = old
-
--- 0, or the refusal's number
-abbrev pub verdictNumber : Verdict → ℕ
-verdictNumber verdict.Accepted = 0
-verdictNumber (verdict.Refused r) = number r

@@ -12,7 +12,7 @@ ghost use Rattle.query.specs.Query.{ask, coveredAt, toldNumber};
 ghost use Rattle.export_number.specs.Asking.{curveWith, roomed, numberLeft};
 
 // What a query reads of a curve beside its knots and records. It asks neither how many sections there are nor whether the last is held.
-pub(crate) fn curve_with(value: f64, total: f64, from: f64, extrapolates: bool) -> Curve
+pub fn curve_with(value: f64, total: f64, from: f64, extrapolates: bool) -> Curve
     ensures { λ r. ⌜ r ≡ curveWith value total from extrapolates ⌝ }
 {
     let tail = Tail { value, total, from };

@@ -1,12 +1,13 @@
 // Prices and running totals at many points of one curve, which is checked once.
-use crate::asking::curve_with;
+use export_number::asking::curve_with;
 use record::refusal::Verdict;
 ghost use mathlib.Core.Path.{_≡_};
 ghost use lib.ListN.{length};
 ghost use Rattle.section.specs.Section.{value, primitive};
 ghost use Rattle.shape.specs.Making.{left};
 ghost use Rattle.queries.specs.Many.{manyVerdict, answersAfter};
-ghost use Rattle.export_number.specs.Asking.{curveWith, verdictNumber};
+ghost use Rattle.export_number.specs.Asking.{curveWith};
+ghost use Rattle.export_many.specs.Many.{verdictNumber};
 
 fn verdict_number(verdict: Verdict) -> u8
     ensures { λ r. ⌜ r ≡ verdictNumber verdict ⌝ }

@@ -1,9 +1,9 @@
 -- `havgrunel_values` meets its contract: the library's answers stand, and its verdict is told.
 use borrow.Author.Needs.{needs}
 use Rattle.section.specs.Section.{value}
-use Rattle.export_number.proofs.Told.{many-told}
-use Rattle.export_number.proofs.many.havgrunel_values.Statement.{statement}
-use Rattle.export_number.proofs.many.havgrunel_values.Tie as tie
+use Rattle.export_many.proofs.Told.{many-told}
+use Rattle.export_many.proofs.many.havgrunel_values.Statement.{statement}
+use Rattle.export_many.proofs.many.havgrunel_values.Tie as tie
 
 returns : tie.Need-returns
 returns c =

@@ -1,8 +1,8 @@
 -- `many::verdict_number` meets its contract.
 use mathlib.Core.Path.{refl}
 use borrow.Author.Needs.{needs}
-use Rattle.export_number.proofs.many.verdict_number.Statement.{statement}
-use Rattle.export_number.proofs.many.verdict_number.Tie as tie
+use Rattle.export_many.proofs.many.verdict_number.Statement.{statement}
+use Rattle.export_many.proofs.many.verdict_number.Tie as tie
 
 pub verdict-number-spec : {M : Type 1} → statement M
 verdict-number-spec =

@@ -1,9 +1,9 @@
 -- `havgrunel_primitives` meets its contract: the library's answers stand, and its verdict is told.
 use borrow.Author.Needs.{needs}
 use Rattle.section.specs.Section.{primitive}
-use Rattle.export_number.proofs.Told.{many-told}
-use Rattle.export_number.proofs.many.havgrunel_primitives.Statement.{statement}
-use Rattle.export_number.proofs.many.havgrunel_primitives.Tie as tie
+use Rattle.export_many.proofs.Told.{many-told}
+use Rattle.export_many.proofs.many.havgrunel_primitives.Statement.{statement}
+use Rattle.export_many.proofs.many.havgrunel_primitives.Tie as tie
 
 returns : tie.Need-returns
 returns c =
