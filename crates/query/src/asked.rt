@@ -13,7 +13,7 @@ ghost use Rattle.record.specs.Refusal.{first};
 ghost use Rattle.record.specs.Slots.{slotCount};
 ghost use Rattle.query.specs.Query.{outside, curveTests, pointTests, queryTests, toldNumber};
 
-// The section that answers a query, or why there is none. Only the definitions speak of it: no code puts a section together to answer.
+// The section that answers a query, or why there is none. Only the definitions speak of it: the code goes from the slots of a record straight to the number.
 pub enum Covered {
     Section(Section),
     Refused(Refusal),
