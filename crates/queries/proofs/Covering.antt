@@ -15,7 +15,7 @@ use Rattle.numbers.proofs.Ways.{never}
 use Rattle.section.specs.declared.section.Section.{Section}
 use Rattle.record.specs.Refusal.{first, andThen}
 use Rattle.reading.specs.Number.{answerIn, orNought}
-use Rattle.reading.specs.Reading.{recordAt}
+use Rattle.reading.specs.Reading.{isSection, recordAt}
 use Rattle.reading.specs.declared.number.Answer.{Answer}
 use Rattle.reading.specs.declared.number.Answer.the-variants as answer
 use Rattle.reading.specs.declared.reading.Found.{Found}
@@ -34,7 +34,7 @@ use Rattle.query.specs.declared.asked.Covered.{Covered}
 use Rattle.query.proofs.Walk.{place-le}
 use Rattle.queries.specs.declared.number.Wanted.{Wanted}
 use Rattle.queries.specs.Number.{figure}
-use Rattle.queries.specs.Many.{verdictOf, firstRefused, answerAt, isLegal}
+use Rattle.queries.specs.Many.{verdictOf, firstRefused, answerAt}
 
 -- ---- the first refusal of many
 
@@ -66,18 +66,18 @@ one-refused (suc n) k f v r l h e g =
 -- ---- one query
 
 -- of a record that is legal, and of one that is not
-pub stands : (v : Verdict) (f : Found) → v ≡ Accepted → isLegal f ≡ true → v ≡ verdictOf (coveredOf v f)
+pub stands : (v : Verdict) (f : Found) → v ≡ Accepted → isSection f ≡ true → v ≡ verdictOf (coveredOf v f)
 stands v (found.Section s) e h = rw e refl
 stands v found.Illegal e h = never h refl
 
-pub falls : (v : Verdict) (f : Found) → v ≡ Accepted → isLegal f ≡ false → Refused RecordNotLegal ≡ verdictOf (coveredOf v f)
+pub falls : (v : Verdict) (f : Found) → v ≡ Accepted → isSection f ≡ false → Refused RecordNotLegal ≡ verdictOf (coveredOf v f)
 falls v (found.Section s) e h = never refl h
 falls v found.Illegal e h = rw e refl
 
 pub barred : (v : Verdict) (r : Refusal) (f : Found) → v ≡ Refused r → v ≡ verdictOf (coveredOf v f)
 barred v r f e = rw e refl
 
-either-legal : (b : Bool) (s : Section) (f : Found) → isLegal f ≡ true → isLegal (cond b (found.Section s) f) ≡ true
+either-legal : (b : Bool) (s : Section) (f : Found) → isSection f ≡ true → isSection (cond b (found.Section s) f) ≡ true
 either-legal true s f h = refl
 either-legal false s f h = h
 
@@ -102,11 +102,11 @@ number-of-found f found.Illegal = refl
 
 module _ (x : List Float) (curve : Curve) (tags : List ℕ) (slots : List Float) (q : Float) where
   -- every record legal, and so the one that answers
-  pub legal-covering : 2 ≤ length x → allBelow (length x - 1) (λ i. isLegal (recordAt tags slots i)) ≡ true → isLegal (covering x curve tags slots q) ≡ true
+  pub legal-covering : 2 ≤ length x → allBelow (length x - 1) (λ i. isSection (recordAt tags slots i)) ≡ true → isSection (covering x curve tags slots q) ≡ true
   unfolding covering
   legal-covering l h =
       either-legal (le (at x (length x - 1)) q) (tailSection curve) (recordAt tags slots (placeOf x q))
-      (all-at (length x - 1) (λ i. isLegal (recordAt tags slots i)) h (placeOf x q) (omega (arith, l, place-le x q)))
+      (all-at (length x - 1) (λ i. isSection (recordAt tags slots i)) h (placeOf x q) (omega (arith, l, place-le x q)))
 
   pub from-the-last : le (at x (length x - 1)) q ≡ true → covering x curve tags slots q ≡ found.Section (tailSection curve)
   unfolding covering

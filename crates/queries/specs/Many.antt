@@ -8,8 +8,6 @@ use lib.ListN.{length}
 use Rattle.numbers.specs.Overlay.{overlay}
 use Rattle.section.specs.declared.section.Section.{Section}
 use Rattle.record.specs.Refusal.{Test, _⇒_, first, andThen}
-use Rattle.reading.specs.declared.reading.Found.{Found}
-use Rattle.reading.specs.declared.reading.Found.the-variants as found
 use Rattle.record.specs.declared.refusal.Refusal.the-variants.{BufferTooShort}
 use Rattle.record.specs.declared.refusal.Verdict.{Verdict}
 use Rattle.record.specs.declared.refusal.Verdict.the-variants as verdict
@@ -48,10 +46,6 @@ abbrev pub answersAfter : (Section → Float → Float) → List Float → Curve
 answersAfter f x curve tags slots qs out = overlay 0 (length qs) (λ i. answerAt f x curve tags slots (at qs i)) out
 
 -- whether a record is one of a section
-abbrev pub isLegal : Found → Bool
-isLegal (found.Section s) = true
-isLegal found.Illegal = false
-
 -- whether a query lies in section i: not below its first knot, and below its last, as far as these are inner knots
 abbrev pub covers : List Float → Float → ℕ → Bool
 covers x q i = (eqb i 0 || not (lt q (at x i))) && (leb (length x - 2) i || lt q (at x (i + 1)))

@@ -7,8 +7,7 @@ use crate::place::search;
 use curve::curve::Curve;
 use query::asked::curve_verdict;
 use query::asked::point_verdict;
-use reading::reading::Found;
-use reading::reading::read_section;
+use reading::sorts::legal_in;
 use record::refusal::Refusal;
 use record::refusal::Verdict;
 use record::slots::SLOTS;
@@ -18,38 +17,29 @@ ghost use Prim.Native.Nat.{_+_, _-_, _*_, _≤_, _<_};
 ghost use lib.ListN.{length};
 ghost use Rattle.numbers.specs.Every.{allBelow};
 ghost use Rattle.section.specs.Section.{value, primitive};
-ghost use Rattle.reading.specs.Reading.{recordAt};
+ghost use Rattle.reading.specs.Reading.{isSection, recordAt};
 ghost use Rattle.record.specs.Refusal.{first};
 ghost use Rattle.record.specs.declared.refusal.Verdict.the-variants.{Accepted};
 ghost use Rattle.shape.specs.Making.{left};
 ghost use Rattle.query.specs.Query.{curveTests, covering, coveredAt};
 ghost use Rattle.queries.specs.Number.{figure};
-ghost use Rattle.queries.specs.Many.{verdictOf, queriesVerdict, manyVerdict, answersAfter, isLegal};
+ghost use Rattle.queries.specs.Many.{verdictOf, queriesVerdict, manyVerdict, answersAfter};
 
-fn read_at(tags: &[u16], slots: &[f64], i: usize) -> Found
+fn legal_at(tags: &[u16], slots: &[f64], i: usize) -> bool
     requires { ⌜ (i < length (now tags)) × (24 * i + 24 ≤ length (now slots)) × (i < 4096) ⌝ }
-    ensures { λ r. ⌜ r ≡ recordAt (now (tags .entry)) (now (slots .entry)) i ⌝ }
+    ensures { λ r. ⌜ r ≡ isSection (recordAt (now (tags .entry)) (now (slots .entry)) i) ⌝ }
 {
     let from = SLOTS * i;
-    read_section(tags[i], &slots[from..from + SLOTS])
-}
-
-fn is_legal(found: Found) -> bool
-    ensures { λ r. ⌜ r ≡ isLegal found ⌝ }
-{
-    match found {
-        Found::Section(_) => true,
-        Found::Illegal => false,
-    }
+    legal_in(tags[i], &slots[from..from + SLOTS])
 }
 
 // Whether every record is legal. Then no query needs to look at its own.
 fn all_legal(tags: &[u16], slots: &[f64], sections: usize) -> bool
     requires { ⌜ (sections ≤ length (now tags)) × (24 * sections ≤ length (now slots)) × (sections ≤ 4096) ⌝ }
-    ensures { λ r. ⌜ r ≡ allBelow sections (λ i. isLegal (recordAt (now (tags .entry)) (now (slots .entry)) i)) ⌝ }
+    ensures { λ r. ⌜ r ≡ allBelow sections (λ i. isSection (recordAt (now (tags .entry)) (now (slots .entry)) i)) ⌝ }
 {
     for i in 0..sections {
-        if !is_legal(read_at(tags, slots, i)) {
+        if !legal_at(tags, slots, i) {
             return false;
         }
     }
@@ -59,13 +49,13 @@ fn all_legal(tags: &[u16], slots: &[f64], sections: usize) -> bool
 // Whether the record that answers a query is legal; from the last knot on none is read.
 fn answers_legally(xs: &[f64], curve: Curve, tags: &[u16], slots: &[f64], q: f64) -> bool
     requires { ⌜ (first (curveTests (now xs) (length (now tags)) (length (now slots))) ≡ Accepted) ⌝ }
-    ensures { λ r. ⌜ r ≡ isLegal (covering (now (xs .entry)) curve (now (tags .entry)) (now (slots .entry)) q) ⌝ }
+    ensures { λ r. ⌜ r ≡ isSection (covering (now (xs .entry)) curve (now (tags .entry)) (now (slots .entry)) q) ⌝ }
 {
     let end = xs.len() - 1;
     if xs[end] <= q {
         return true;
     }
-    is_legal(read_at(tags, slots, search(xs, q)))
+    legal_at(tags, slots, search(xs, q))
 }
 
 // Refusals 12, 13 and 15 of one query. `legal` says that every record is known to be.
@@ -78,7 +68,7 @@ fn query_verdict(
     q: f64,
 ) -> Verdict
     requires { ⌜ (first (curveTests (now xs) (length (now tags)) (length (now slots))) ≡ Accepted) ⌝ }
-    requires { ⌜ (legal ≡ true → allBelow (length (now xs) - 1) (λ i. isLegal (recordAt (now tags) (now slots) i)) ≡ true) ⌝ }
+    requires { ⌜ (legal ≡ true → allBelow (length (now xs) - 1) (λ i. isSection (recordAt (now tags) (now slots) i)) ≡ true) ⌝ }
     ensures { λ r. ⌜ r ≡ verdictOf (coveredAt (now (xs .entry)) curve (now (tags .entry)) (now (slots .entry)) q) ⌝ }
 {
     let verdict = point_verdict(xs, curve, q);
@@ -99,7 +89,7 @@ fn query_verdict(
 // Where the queries are as many as the points, looking at every record once is less work than looking at one for each query.
 fn known_legal(xs: &[f64], tags: &[u16], slots: &[f64], queries: usize) -> bool
     requires { ⌜ (first (curveTests (now xs) (length (now tags)) (length (now slots))) ≡ Accepted) ⌝ }
-    ensures { λ r. ⌜ (r ≡ true → allBelow (length (now (xs .entry)) - 1) (λ i. isLegal (recordAt (now (tags .entry)) (now (slots .entry)) i)) ≡ true) ⌝ }
+    ensures { λ r. ⌜ (r ≡ true → allBelow (length (now (xs .entry)) - 1) (λ i. isSection (recordAt (now (tags .entry)) (now (slots .entry)) i)) ≡ true) ⌝ }
 {
     if queries < xs.len() {
         return false;

@@ -5,7 +5,6 @@ use reading::number::primitive_in;
 use reading::number::value_in;
 use record::slots::SLOTS;
 use section::everywhere_constant::EverywhereConstant;
-use section::section::Section;
 ghost use mathlib.Core.Path.{_≡_};
 ghost use Prim.Native.Nat.{_+_, _*_, _≤_, _<_};
 ghost use lib.ListN.{length};
@@ -20,25 +19,16 @@ pub(crate) enum Wanted {
     Total,
 }
 
-fn figure(wanted: Wanted, section: Section, q: f64) -> f64
-    ensures { λ r. ⌜ r ≡ figure wanted section q ⌝ }
-{
-    match wanted {
-        Wanted::Price => section.value(q),
-        Wanted::Total => section.primitive(q),
-    }
-}
-
 // What the curve's own record answers, from the last knot on.
 pub(crate) fn tail_number(curve: Curve, wanted: Wanted, q: f64) -> f64
     ensures { λ r. ⌜ r ≡ figure wanted (tailSection curve) q ⌝ }
 {
     let tail = curve.tail;
-    figure(
-        wanted,
-        Section::EverywhereConstant(EverywhereConstant::new(tail.value, tail.total, tail.from)),
-        q,
-    )
+    let constant = EverywhereConstant::new(tail.value, tail.total, tail.from);
+    match wanted {
+        Wanted::Price => constant.value(q),
+        Wanted::Total => constant.primitive(q),
+    }
 }
 
 // What the record of section i answers. All who ask a record come through here: what is called from one place only is compiled into it.

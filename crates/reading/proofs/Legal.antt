@@ -6,7 +6,7 @@ use mathlib.Core.List.{List}
 use mathlib.Core.Logic.{⊎-elim}
 use mathlib.Core.Path.{_≡_, refl, sym, ap, subst, _∙_}
 use native.Mathlib.Nat.{add-zero, add-suc, zero-add}
-use borrow.Author.Tests.{lt-ltb, le-ltb, eqb-true, ne-eqb}
+use borrow.Author.Tests.{lt-ltb, le-ltb, eqb-true, eq-eqb, ne-eqb}
 use lib.Dec.{eqb, ltb}
 use lib.Ieee.{Float}
 use lib.ListN.{length}
@@ -14,8 +14,8 @@ use Rattle.numbers.specs.Every.{allBelow}
 use Rattle.numbers.proofs.Every.{all-at, and-right-false}
 use Rattle.numbers.proofs.Ways.{never, lt-or-le}
 use Rattle.record.specs.Tag.{spare}
-use Rattle.reading.specs.Legal.{legal}
-use Rattle.reading.specs.Reading.{quadraticFrom, otherFrom, joined, readSection, slot}
+use Rattle.reading.specs.Legal.{legal, quadraticSort, otherSort, pairs, readable}
+use Rattle.reading.specs.Reading.{quadraticFrom, otherFrom, joined, readSection, isSection, slot}
 use Rattle.reading.specs.declared.reading.QuadraticFound.{QuadraticFound}
 use Rattle.reading.specs.declared.reading.QuadraticFound.the-variants as maybeQuadratic
 use Rattle.reading.specs.declared.reading.OtherFound.{OtherFound}
@@ -23,28 +23,20 @@ use Rattle.reading.specs.declared.reading.OtherFound.the-variants as may
 use Rattle.reading.specs.declared.reading.Found.{Found}
 use Rattle.reading.specs.declared.reading.Found.the-variants as found
 
--- whether there is a section, and of each part which sort was found: none 0, one that goes alone 1, one that combines 2, unknown 3
-abbrev pub isSection : Found → Bool
-isSection (found.Section s) = true
-isSection found.Illegal = false
+-- of each part which sort was found
+abbrev quadraticFoundSort : QuadraticFound → ℕ
+quadraticFoundSort maybeQuadratic.Absent = 0
+quadraticFoundSort (maybeQuadratic.Part p) = 2
+quadraticFoundSort maybeQuadratic.Unknown = 3
 
-abbrev quadraticSort : QuadraticFound → ℕ
-quadraticSort maybeQuadratic.Absent = 0
-quadraticSort (maybeQuadratic.Part p) = 2
-quadraticSort maybeQuadratic.Unknown = 3
+abbrev otherFoundSort : OtherFound → ℕ
+otherFoundSort maybeOther.Absent = 0
+otherFoundSort (maybeOther.Constant s) = 1
+otherFoundSort (maybeOther.Gradient s) = 1
+otherFoundSort (maybeOther.Convex s) = 2
+otherFoundSort maybeOther.Unknown = 3
 
-abbrev otherSort : OtherFound → ℕ
-otherSort maybeOther.Absent = 0
-otherSort (maybeOther.Constant s) = 1
-otherSort (maybeOther.Gradient s) = 1
-otherSort (maybeOther.Convex s) = 2
-otherSort maybeOther.Unknown = 3
-
--- the pairs of sorts that make a section
-abbrev pairs : ℕ → ℕ → Bool
-pairs q o = cond (eqb q 0) (eqb o 1 || eqb o 2) (eqb q 2 && (eqb o 0 || eqb o 2))
-
-joined-sorts : (w : Float) (q : QuadraticFound) (o : OtherFound) → isSection (joined w q o) ≡ pairs (quadraticSort q) (otherSort o)
+joined-sorts : (w : Float) (q : QuadraticFound) (o : OtherFound) → isSection (joined w q o) ≡ pairs (quadraticFoundSort q) (otherFoundSort o)
 unfolding joined
 joined-sorts w maybeQuadratic.Unknown maybeOther.Absent = refl
 joined-sorts w maybeQuadratic.Unknown maybeOther.Unknown = refl
@@ -62,41 +54,23 @@ joined-sorts w (maybeQuadratic.Part p) (maybeOther.Constant s) = refl
 joined-sorts w (maybeQuadratic.Part p) (maybeOther.Gradient s) = refl
 joined-sorts w (maybeQuadratic.Part p) (maybeOther.Convex s) = refl
 
--- the sort by the code alone
-abbrev quadraticSorts : ℕ → ℕ
-quadraticSorts code = cond (eqb code 0) 0 (cond (eqb code 2) 2 (cond (eqb code 4) 2 (cond (eqb code 5) 2 3)))
-
-abbrev otherSorts : ℕ → ℕ
-otherSorts code =
-    cond (eqb code 0) 0
-    (cond (eqb code 2) 1
-    (cond (eqb code 4) 1
-    (cond (eqb code 6) 2
-    (cond (eqb code 8) 2
-    (cond (eqb code 10) 2
-    (cond (eqb code 12) 2
-    (cond (eqb code 13) 2 3)))))))
-
-quadratic-cond : (b : Bool) (x y : QuadraticFound) → quadraticSort (cond b x y) ≡ cond b (quadraticSort x) (quadraticSort y)
+quadratic-cond : (b : Bool) (x y : QuadraticFound) → quadraticFoundSort (cond b x y) ≡ cond b (quadraticFoundSort x) (quadraticFoundSort y)
 quadratic-cond true x y = refl
 quadratic-cond false x y = refl
 
-other-cond : (b : Bool) (x y : OtherFound) → otherSort (cond b x y) ≡ cond b (otherSort x) (otherSort y)
+other-cond : (b : Bool) (x y : OtherFound) → otherFoundSort (cond b x y) ≡ cond b (otherFoundSort x) (otherFoundSort y)
 other-cond true x y = refl
 other-cond false x y = refl
 
-quadratic-sorts : (code : ℕ) (s : List Float) → quadraticSort (quadraticFrom code s) ≡ quadraticSorts code
+quadratic-sorts : (code : ℕ) (s : List Float) → quadraticFoundSort (quadraticFrom code s) ≡ quadraticSort code
 unfolding quadraticFrom
 quadratic-sorts code s = simp quadratic-cond
 
-other-sorts : (code : ℕ) (s : List Float) → otherSort (otherFrom code s) ≡ otherSorts code
+other-sorts : (code : ℕ) (s : List Float) → otherFoundSort (otherFrom code s) ≡ otherSort code
 unfolding otherFrom
 other-sorts code s = simp other-cond
 
 -- so the tag alone says whether there is a section
-abbrev readable : ℕ → Bool
-readable t = cond (eqb (spare t) 0) (pairs (quadraticSorts (t / 0x1000)) (otherSorts (t / 0x80 % 32))) false
-
 section-cond : (b : Bool) (x y : Found) → isSection (cond b x y) ≡ cond b (isSection x) (isSection y)
 section-cond true x y = refl
 section-cond false x y = refl
@@ -112,6 +86,17 @@ spare-illegal t e = simp (e, and-right-false)
 
 spare-unread : (t : ℕ) → eqb (spare t) 0 ≡ false → readable t ≡ false
 spare-unread t e = rw e
+
+-- the ways of that, one by one: too few slots, a spare bit, or sorts that are a pair or not
+pub short-unread : (t : ℕ) (s : List Float) → length s < 24 → false ≡ isSection (readSection t s)
+unfolding readSection
+short-unread t s h = simp (lt-ltb _ _ h)
+
+pub marked-unread : (t : ℕ) (s : List Float) → 24 ≤ length s → (spare t ≡ 0 → ⊥) → false ≡ isSection (readSection t s)
+marked-unread t s h k = sym (read-readable t s h ∙ spare-unread t (ne-eqb _ _ k))
+
+pub clear-read : (t : ℕ) (s : List Float) → 24 ≤ length s → spare t ≡ 0 → pairs (quadraticSort (t / 0x1000)) (otherSort (t / 0x80 % 32)) ≡ isSection (readSection t s)
+clear-read t s h k = let r : readable t ≡ pairs (quadraticSort (t / 0x1000)) (otherSort (t / 0x80 % 32)) = simp (eq-eqb _ _ k) in sym (read-readable t s h ∙ r)
 
 -- the computed check of all others, of which there are 512
 abbrev agrees : ℕ → Bool

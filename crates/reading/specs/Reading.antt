@@ -141,6 +141,10 @@ readSection tag s =
     (joined (slot s 0) (quadraticFrom (tag / 0x1000) s) (otherFrom (tag / 0x80 % 32) s))
     found.Illegal)
 
+abbrev pub isSection : Found → Bool
+isSection (found.Section s) = true
+isSection found.Illegal = false
+
 -- the record of section i, of all records in a row
 abbrev pub recordAt : List ℕ → List Float → ℕ → Found
 recordAt tags slots i = readSection (getD tags i 0) (take slotCount (drop (slotCount * i) slots))

@@ -1,12 +1,12 @@
 -- `many::answers_legally` meets its contract.
+use Prim.Native.Nat.{ℕ}
 use native.Mathlib.Omega.{arith}
 use mathlib.Core.Path.{sym, ap, _∙_}
 use borrow.Author.Needs.{needs}
 use lib.ListN.{length}
-use Rattle.reading.specs.Reading.{recordAt}
+use Rattle.reading.specs.Reading.{isSection, recordAt}
 use Rattle.query.proofs.Answers.{Reaches, reached}
 use Rattle.query.proofs.Walk.{place-le}
-use Rattle.queries.specs.Many.{isLegal}
 use Rattle.queries.proofs.Covering.{from-the-last, before-the-last}
 use Rattle.queries.proofs.many.answers_legally.Statement.{statement}
 use Rattle.queries.proofs.many.answers_legally.Tie as tie
@@ -21,14 +21,14 @@ answers-legally-spec =
     (λ c. omega (arith, fits (c .before .before .before) .low))
     (λ c. omega (arith, fits (c .before .before .before) .low, fits (c .before .before .before) .high))
     (λ c. omega (arith, fits (c .before .before .before .before) .low))
-    (λ c. let a = c .before .before .before .before .before .args in sym (ap isLegal (from-the-last (a .xs .now) (a .curve) (a .tags .now) (a .slots .now) (a .q) (c .if1 .taken))))
+    (λ c. let a = c .before .before .before .before .before .args in sym (ap isSection (from-the-last (a .xs .now) (a .curve) (a .tags .now) (a .slots .now) (a .q) (c .if1 .taken))))
     (λ c κs. (fits (c .before .before .before .before .before) .low, fits (c .before .before .before .before .before) .high, fits (c .before .before .before .before .before) .up))
     (λ c κs.
     let f = fits (c .before .before .before .before .before .before) in
     let p = place-le (c .before .before .before .before .before .before .args .xs .now) (c .before .before .before .before .before .before .args .q) in
     (omega (arith, f .low, f .in-tags, p, c .search .ensures), omega (arith, f .low, f .in-slots, p, c .search .ensures), omega (arith, f .low, f .high, p, c .search .ensures)))
-    (λ c κs. search needs)
     (λ c.
-    let a = c .before .before .before .before .before .before .before .before .args in
-    c .is-legal .ensures
-    ∙ ap isLegal (c .before .read-at .ensures ∙ ap (recordAt (a .tags .now) (a .slots .now)) (c .before .before .search .ensures) ∙ sym (before-the-last (a .xs .now) (a .curve) (a .tags .now) (a .slots .now) (a .q) (c .before .before .before .if1 .left)))))
+    let a = c .before .before .before .before .before .before .before .args in
+    c .legal-at .ensures
+    ∙ ap (λ (i : ℕ). isSection (recordAt (a .tags .now) (a .slots .now) i)) (c .before .search .ensures)
+    ∙ ap isSection (sym (before-the-last (a .xs .now) (a .curve) (a .tags .now) (a .slots .now) (a .q) (c .before .before .if1 .left)))))

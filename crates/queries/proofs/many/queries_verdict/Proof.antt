@@ -6,12 +6,12 @@ use mathlib.Core.Path.{_≡_, sym, ap, _∙_}
 use borrow.Author.Needs.{needs}
 use lib.ListN.{length}
 use Rattle.numbers.specs.Every.{allBelow}
-use Rattle.reading.specs.Reading.{recordAt}
+use Rattle.reading.specs.Reading.{isSection, recordAt}
 use Rattle.record.specs.Refusal.{first}
 use Rattle.record.specs.declared.refusal.Verdict.the-variants.{Accepted}
 use Rattle.table.specs.Table.{at}
 use Rattle.query.specs.Query.{curveTests, coveredAt}
-use Rattle.queries.specs.Many.{verdictOf, firstRefused, isLegal}
+use Rattle.queries.specs.Many.{verdictOf, firstRefused}
 use Rattle.queries.proofs.Covering.{none-refused, one-more, one-refused}
 use Rattle.queries.proofs.many.queries_verdict.Statement.{statement}
 use Rattle.queries.proofs.many.queries_verdict.Tie as tie

@@ -1,16 +1,15 @@
--- `number::tail_number` meets its contract.
-use mathlib.Core.Path.{ap, _∙_}
+-- `number::tail_number` meets its contract: a constant section answers what its numbers do.
+use mathlib.Core.Path.{_∙_}
 use borrow.Author.Needs.{needs}
-use Rattle.section.specs.declared.section.Section.{Section}
-use Rattle.section.specs.declared.section.Section.the-variants as kind
-use Rattle.section.specs.declared.everywhere_constant.EverywhereConstant.{EverywhereConstant}
-use Rattle.queries.specs.Number.{figure}
+use Rattle.section.specs.Section.{value, primitive}
 use Rattle.queries.proofs.number.tail_number.Statement.{statement}
 use Rattle.queries.proofs.number.tail_number.Tie as tie
 
 pub tail-number-spec : {M : Type 1} → statement M
+unfolding value primitive
 tail-number-spec =
     tie.close
     (tie.spec
-    (λ c κs. search needs) (λ c κs. search needs)
-    (λ c. let a = c .before .before .before .args in c .figure .ensures ∙ ap (λ (s : EverywhereConstant). figure (a .wanted) (kind.EverywhereConstant s) (a .q)) (c .before .new .ensures)))
+    (λ c κs. search needs) (λ c. search needs) (λ c κs. search needs) (λ c. search needs) (λ c κs. search needs)
+    (λ c. rw (c .before .enum-told .given .1, c .value .ensures, c .before .before .before .new .ensures))
+    (λ c. rw (c .before .enum-told2 .given .1, c .primitive .ensures, c .before .before .before .new .ensures)))
