@@ -45,7 +45,6 @@ answerAt f x curve tags slots q = toldNumber (ask (λ s. f s q) (coveredAt x cur
 abbrev pub answersAfter : (Section → Float → Float) → List Float → Curve → List ℕ → List Float → List Float → List Float → List Float
 answersAfter f x curve tags slots qs out = overlay 0 (length qs) (λ i. answerAt f x curve tags slots (at qs i)) out
 
--- whether a record is one of a section
 -- whether a query lies in section i: not below its first knot, and below its last, as far as these are inner knots
 abbrev pub covers : List Float → Float → ℕ → Bool
 covers x q i = (eqb i 0 || not (lt q (at x i))) && (leb (length x - 2) i || lt q (at x (i + 1)))
