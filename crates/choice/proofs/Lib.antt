@@ -1,5 +1,3 @@
-pub mod Signs
-pub mod Ways
 pub mod Unique
 pub mod Laws
 pub mod Answers

@@ -1,4 +1,1 @@
-pub mod Regions
-pub mod QuadraticPart
-pub mod ConvexPart
 pub mod Choice

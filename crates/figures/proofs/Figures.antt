@@ -17,10 +17,10 @@ use Rattle.table.specs.Check.{allFinite, rising}
 use Rattle.table.specs.Table.{middleAt, firstNode, lastNode, nodeAt, totalAt}
 use Rattle.table.specs.Table as nodes
 use Rattle.choice.specs.Choice.{firstRegion, mixed, shaped, sectionOf}
-use Rattle.choice.specs.ConvexPart.{atMost, atLeast, fourth, third, convexPart}
-use Rattle.choice.specs.ConvexPart as part
-use Rattle.choice.specs.QuadraticPart.{made, minKind}
-use Rattle.choice.specs.Regions.{flat, minFits, inFirst, inSecond, inThird}
+use Rattle.parts.specs.ConvexPart.{atMost, atLeast, fourth, third, convexPart}
+use Rattle.parts.specs.ConvexPart as part
+use Rattle.parts.specs.QuadraticPart.{made, minKind}
+use Rattle.regions.specs.Regions.{flat, minFits, inFirst, inSecond, inThird}
 use Rattle.shape.specs.Sections.{sectionAt, tailOf}
 use Rattle.curve.specs.Build.{curveOf}
 use Rattle.query.specs.Query.{walk, covering}

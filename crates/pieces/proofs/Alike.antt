@@ -23,7 +23,7 @@ use Rattle.table.specs.declared.method.ConvexMonotone.{ConvexMonotone}
 use Rattle.table.specs.declared.ends.End.{End}
 use Rattle.table.specs.declared.ends.End.the-variants as end
 use Rattle.table.specs.declared.ends.Frame.{Frame}
-use Rattle.choice.specs.declared.period.Period.{Period}
+use Rattle.parts.specs.declared.period.Period.{Period}
 use Rattle.choice.specs.Choice.{sectionOf}
 use Rattle.shape.specs.Sections.{periodAt, sectionAt, tagAt, slotAt, tailOf}
 use Rattle.shape.specs.declared.sections.Tail.{Tail}

@@ -9,8 +9,8 @@ use Rattle.table.specs.Table.{middleAt, second, secondLast, firstNode, lastNode
 use Rattle.table.specs.declared.method.ConvexMonotone.{ConvexMonotone}
 use Rattle.table.specs.declared.ends.End.the-variants as end
 use Rattle.choice.specs.Choice.{firstRegion, mixed, shaped, sectionOf}
-use Rattle.choice.specs.QuadraticPart.{made, minKind}
-use Rattle.choice.specs.Regions.{flat, minFits, inFirst}
+use Rattle.parts.specs.QuadraticPart.{made, minKind}
+use Rattle.regions.specs.Regions.{flat, minFits, inFirst}
 use Rattle.shape.specs.Sections.{sectionAt, tagAt, tailOf}
 use Rattle.sheets.specs.Sheet.{sheetFrame}
 use Rattle.pieces.specs.Pieces.{whole}

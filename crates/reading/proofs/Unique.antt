@@ -16,9 +16,6 @@ use Rattle.reading.proofs.number.primitive_in.Reads as primitive-in-rea
 use Rattle.reading.proofs.reading.read_section
 use Rattle.reading.proofs.reading.read_section.Kinds as read-section-kinds
 use Rattle.reading.proofs.reading.read_section.Reads as read-section-reads
-use Rattle.reading.proofs.sorts.legal_in
-use Rattle.reading.proofs.sorts.legal_in.Kinds as legal-in-kinds
-use Rattle.reading.proofs.sorts.legal_in.Reads as legal-in-reads
 
 pub read-section-unique : (κs : Lifetimes.Lfts 1) (a : World.ArgsD read_section.signature κs) (r₁ r₂ : World.ResD read_section.signature κs)
     (s t : Clauses.AtExit (K.endedOf 1 read-section-kinds.ps read-section-kinds.r) κs) → read-section-reads.Post κs a r₁ s → read-section-reads.Post κs a r₂ t → r₁ ≡ r₂
@@ -35,7 +32,3 @@ primitive-in-unique κs a r₁ r₂ s t p q = p ∙ sym q
 pub or-nought-unique : (κs : Lifetimes.Lfts 0) (a : World.ArgsD or_nought.signature κs) (r₁ r₂ : World.ResD or_nought.signature κs)
     (s t : Clauses.AtExit (K.endedOf 0 or-nought-kinds.ps or-nought-kinds.r) κs) → or-nought-reads.Post κs a r₁ s → or-nought-reads.Post κs a r₂ t → r₁ ≡ r₂
 or-nought-unique κs a r₁ r₂ s t p q = p ∙ sym q
-
-pub legal-in-unique : (κs : Lifetimes.Lfts 1) (a : World.ArgsD legal_in.signature κs) (r₁ r₂ : World.ResD legal_in.signature κs)
-    (s t : Clauses.AtExit (K.endedOf 1 legal-in-kinds.ps legal-in-kinds.r) κs) → legal-in-reads.Post κs a r₁ s → legal-in-reads.Post κs a r₂ t → r₁ ≡ r₂
-legal-in-unique κs a r₁ r₂ s t p q = p ∙ sym q

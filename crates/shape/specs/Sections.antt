@@ -13,7 +13,7 @@ use Rattle.record.specs.Slots.{slotCount, slotsOf}
 use Rattle.record.specs.Tag.{tagOf}
 use Rattle.table.specs.Table.{at, nodeAt, totalAt}
 use Rattle.table.specs.declared.ends.Frame.{Frame}
-use Rattle.choice.specs.declared.period.Period.{Period}
+use Rattle.parts.specs.declared.period.Period.{Period}
 use Rattle.choice.specs.Choice.{sectionOf}
 use Rattle.shape.specs.declared.sections.Tail.{Tail}
 

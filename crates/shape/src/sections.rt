@@ -1,5 +1,5 @@
 // The sections of a table, and their records in lent buffers.
-use choice::period::Period;
+use parts::period::Period;
 use reading::number::value_in;
 use reading::reading::Found;
 use record::slots::SLOTS;

@@ -1,0 +1,2 @@
+pub mod QuadraticPart
+pub mod ConvexPart
