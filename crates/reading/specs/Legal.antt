@@ -13,7 +13,7 @@ legal t =
     && (eqb (quadraticSplit t) 0 || eqb (quadraticCode t) 2)
     && (eqb (otherSplit t) 0 || eqb (otherCode t) 6)
 
--- The rest is said of private functions only. The sort of a part by its code, with the split bit lowest: none 0, one that goes alone 1, one that combines 2, unknown 3.
+-- The rest is said of private functions of `legality`, which tell the same by sorts. The sort of a part by its code, with the split bit lowest: none 0, one that goes alone 1, one that combines 2, unknown 3.
 abbrev pub quadraticSort : ℕ → ℕ
 quadraticSort code = cond (eqb code 0) 0 (cond (eqb code 2) 2 (cond (eqb code 4) 2 (cond (eqb code 5) 2 3)))
 
@@ -32,5 +32,6 @@ otherSort code =
 abbrev pub pairs : ℕ → ℕ → Bool
 pairs q o = cond (eqb q 0) (eqb o 1 || eqb o 2) (eqb q 2 && (eqb o 0 || eqb o 2))
 
+-- what they tell of a tag; that it is `legal` is proved
 abbrev pub readable : ℕ → Bool
 readable t = cond (eqb (spare t) 0) (pairs (quadraticSort (t / 0x1000)) (otherSort (t / 0x80 % 32))) false
