@@ -14,12 +14,12 @@ use Rattle.section.specs.declared.quadratic_part.QuadraticPart.the-variants as 
 use Rattle.section.specs.declared.convex_monotone_part.ConvexMonotonePart.{ConvexMonotonePart}
 use Rattle.section.specs.declared.convex_monotone_part.ConvexMonotonePart.the-variants as other
 use Rattle.table.specs.declared.method.ConvexMonotone.{ConvexMonotone}
-use Rattle.parts.specs.declared.period.Period.{Period}
-use Rattle.regions.specs.Regions.{flat, minFits, inFirst}
+use Rattle.choice.specs.declared.period.Period.{Period}
+use Rattle.choice.specs.Regions.{flat, minFits, inFirst}
 use Rattle.section.specs.QuadraticPart as quadratic
-use Rattle.parts.specs.QuadraticPart.{made, minKind, quadraticPart}
+use Rattle.choice.specs.QuadraticPart.{made, minKind, quadraticPart}
 use Rattle.section.specs.ConvexMonotonePart as convex
-use Rattle.parts.specs.ConvexPart.{fourth, second, third, convexPart}
+use Rattle.choice.specs.ConvexPart.{fourth, second, third, convexPart}
 use Rattle.choice.specs.Choice.{sectionOf, shaped, firstRegion, mixed}
 use Rattle.choice.proofs.Laws.{all-quadratic, convex-alone}
 

@@ -14,10 +14,10 @@ use Rattle.quadratic.specs.Quadratic as quadratic
 use Rattle.quadratic.specs.QuadraticMin as quadmin
 use Rattle.section.specs.Combination as combination
 use Rattle.table.specs.Method as method
-use Rattle.parts.specs.declared.period.Period.{Period}
-use Rattle.regions.specs.Regions.{flat, minFits, inFirst, inSecond, inThird}
-use Rattle.parts.specs.QuadraticPart.{made, minKind}
-use Rattle.parts.specs.ConvexPart.{atMost, atLeast, fourth, second, convexPart}
+use Rattle.choice.specs.declared.period.Period.{Period}
+use Rattle.choice.specs.Regions.{flat, minFits, inFirst, inSecond, inThird}
+use Rattle.choice.specs.QuadraticPart.{made, minKind}
+use Rattle.choice.specs.ConvexPart.{atMost, atLeast, fourth, second, convexPart}
 use Rattle.choice.specs.Choice.{sectionOf, shaped, firstRegion, mixed}
 
 abbrev five : Float

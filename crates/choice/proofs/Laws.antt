@@ -7,14 +7,14 @@ use Rattle.section.specs.declared.section.Section.the-variants as section
 use Rattle.section.specs.ConstantGrad as grad
 use Rattle.section.specs.Combination as combination
 use Rattle.table.specs.declared.method.ConvexMonotone.{ConvexMonotone}
-use Rattle.parts.specs.declared.period.Period.{Period}
-use Rattle.regions.specs.Regions.{flat, minFits, inFirst}
+use Rattle.choice.specs.declared.period.Period.{Period}
+use Rattle.choice.specs.Regions.{flat, minFits, inFirst}
 use Rattle.section.specs.QuadraticPart as quadratic
-use Rattle.parts.specs.QuadraticPart.{made, minKind}
+use Rattle.choice.specs.QuadraticPart.{made, minKind}
 use Rattle.section.specs.ConvexMonotonePart as convex
-use Rattle.parts.specs.ConvexPart.{convexPart}
+use Rattle.choice.specs.ConvexPart.{convexPart}
 use Rattle.choice.specs.Choice.{sectionOf, shaped, firstRegion, mixed}
-use Rattle.regions.proofs.Signs.{less-or-equal}
+use Rattle.choice.proofs.Signs.{less-or-equal}
 
 -- One law for each case of the choice.
 module _ (method : ConvexMonotone) (period : Period) where

@@ -8,12 +8,12 @@ use Rattle.section.specs.declared.section.Section.the-variants as section
 use Rattle.section.specs.ConstantGrad as grad
 use Rattle.section.specs.Combination as combination
 use Rattle.table.specs.declared.method.ConvexMonotone.{ConvexMonotone}
-use Rattle.parts.specs.declared.period.Period.{Period}
-use Rattle.regions.specs.Regions.{flat, inFirst}
+use Rattle.choice.specs.declared.period.Period.{Period}
+use Rattle.choice.specs.Regions.{flat, inFirst}
 use Rattle.section.specs.QuadraticPart as quadratic
-use Rattle.parts.specs.QuadraticPart.{made, quadraticPart}
+use Rattle.choice.specs.QuadraticPart.{made, quadraticPart}
 use Rattle.section.specs.ConvexMonotonePart as convex
-use Rattle.parts.specs.ConvexPart.{convexPart}
+use Rattle.choice.specs.ConvexPart.{convexPart}
 
 module _ (method : ConvexMonotone) (period : Period) (P N : Float) where
   open ConvexMonotone method using (quadraticity, «force_positive»)

@@ -1,1 +1,4 @@
 pub mod Choice
+pub mod QuadraticPart
+pub mod ConvexPart
+pub mod Regions

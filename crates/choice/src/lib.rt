@@ -1,18 +1,23 @@
 // Which section covers a period: the four steps of the choice, each part made only where the answer holds it.
-use parts::convex_part::convex_part;
-use parts::period::Period;
-use parts::quadratic_part::made_alone;
-use parts::quadratic_part::min_kind;
-use parts::quadratic_part::quadratic_part;
-use regions::in_first;
-use regions::is_flat;
+mod convex_part;
+pub mod period;
+mod quadratic_part;
+mod regions;
+
+use crate::convex_part::convex_part;
+use crate::period::Period;
+use crate::quadratic_part::made_alone;
+use crate::quadratic_part::min_kind;
+use crate::quadratic_part::quadratic_part;
+use crate::regions::in_first;
+use crate::regions::is_flat;
 use section::combination::Combination;
 use section::constant_grad::ConstantGrad;
 use section::section::Section;
 use table::method::ConvexMonotone;
 ghost use mathlib.Core.Path.{_≡_};
 ghost use Rattle.choice.specs.Choice.{sectionOf, shaped, mixed};
-ghost use Rattle.parts.specs.QuadraticPart.{firstKind};
+ghost use Rattle.choice.specs.QuadraticPart.{firstKind};
 
 // Any settings are taken. Those outside [0, 1] a build refuses beforehand, so for them the original has no answer to match: a
 // quadraticity below 0.0 counts as 0.0, and one above 1.0 or a NaN as 1.0.

@@ -7,17 +7,17 @@ use lib.Dec.{ltb, eqb}
 use lib.Ieee.{Float}
 use lib.ListN.{length}
 use Rattle.numbers.specs.Words.{nought}
-use Rattle.record.specs.Refusal.{first, number, andThen}
-use Rattle.record.specs.declared.refusal.Refusal.{Refusal}
-use Rattle.record.specs.declared.refusal.Verdict.{Verdict}
-use Rattle.record.specs.declared.refusal.Verdict.the-variants as verdict
-use Rattle.record.proofs.First.{Passed, passed, first-append}
+use Rattle.refusal.specs.Refusal.{first, number, andThen}
+use Rattle.refusal.specs.declared.Refusal.{Refusal}
+use Rattle.refusal.specs.declared.Verdict.{Verdict}
+use Rattle.refusal.specs.declared.Verdict.the-variants as verdict
+use Rattle.refusal.proofs.First.{Passed, passed, first-append}
 use Rattle.table.specs.Check.{roomTests}
 use Rattle.table.specs.declared.method.ConvexMonotone.{ConvexMonotone}
 use Rattle.table.specs.declared.ends.Seam.{Seam}
-use Rattle.shape.specs.Making.{sizeTests}
-use Rattle.shape.proofs.Sizes as sizes
-use Rattle.shape.proofs.Sizes.{Fits, only-room}
+use Rattle.assembly.specs.Making.{sizeTests}
+use Rattle.assembly.proofs.Sizes as sizes
+use Rattle.assembly.proofs.Sizes.{Fits, only-room}
 use Rattle.curve.specs.Build.{seamedTests, buildTests, answer}
 use Rattle.curve.specs.Curve.{toldCurve}
 use Rattle.curve.specs.declared.curve.Curve.{Curve}

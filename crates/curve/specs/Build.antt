@@ -6,16 +6,16 @@ use lib.Dec.{eqb}
 use lib.Ieee.{Float}
 use lib.ListN.{length}
 use Rattle.numbers.specs.Words.{nought}
-use Rattle.record.specs.Refusal.{Test, first}
-use Rattle.record.specs.declared.refusal.Verdict.{Verdict}
-use Rattle.record.specs.declared.refusal.Verdict.the-variants as verdict
+use Rattle.refusal.specs.Refusal.{Test, first}
+use Rattle.refusal.specs.declared.Verdict.{Verdict}
+use Rattle.refusal.specs.declared.Verdict.the-variants as verdict
 use Rattle.table.specs.Check.{tableTests, seamTest, roomTests}
 use Rattle.table.specs.declared.method.ConvexMonotone.{ConvexMonotone}
 use Rattle.table.specs.declared.ends.End.the-variants as end
 use Rattle.table.specs.declared.ends.Seam.{Seam}
 use Rattle.table.specs.declared.ends.Frame.{Frame}
-use Rattle.shape.specs.Sections.{tailOf}
-use Rattle.shape.specs.Making.{left, nodesAfter, tagsAfter, slotsAfter}
+use Rattle.assembly.specs.Sections.{tailOf}
+use Rattle.assembly.specs.Making.{left, nodesAfter, tagsAfter, slotsAfter}
 use Rattle.curve.specs.declared.curve.Built.{Built}
 use Rattle.curve.specs.declared.curve.Built.the-variants as built
 

@@ -1,7 +1,7 @@
 -- 01, Refusal numbers; Queries, settings and growth: what a build answers, and how it is told.
 use mathlib.Core.Bool.{Bool}
 use Rattle.numbers.specs.Words.{nought}
-use Rattle.record.specs.Refusal.{number}
+use Rattle.refusal.specs.Refusal.{number}
 use Rattle.curve.specs.declared.curve.Curve.{Curve}
 use Rattle.curve.specs.declared.curve.Built.{Built}
 use Rattle.curve.specs.declared.curve.Built.the-variants as built

@@ -1,10 +1,10 @@
 // From a table to a curve.
 use crate::curve::Built;
 use crate::curve::Curve;
-use record::refusal::Refusal;
-use record::refusal::Verdict;
-use shape::making::Made;
-use shape::making::make;
+use assembly::making::Made;
+use assembly::making::make;
+use refusal::Refusal;
+use refusal::Verdict;
 use table::check::room_verdict;
 use table::check::seam_too_long;
 use table::check::table_verdict;
@@ -13,7 +13,7 @@ use table::ends::Frame;
 use table::ends::Seam;
 use table::method::ConvexMonotone;
 ghost use mathlib.Core.Path.{_≡_};
-ghost use Rattle.record.specs.Refusal.{first};
+ghost use Rattle.refusal.specs.Refusal.{first};
 ghost use Rattle.curve.specs.Build.{seamedTests, buildTests, wholeFrame, builtOf, nodesLeft, tagsLeft, slotsLeft};
 
 // Refusals 1 to 8.

@@ -1,6 +1,6 @@
 // A curve that was built: how many sections its records hold, and what answers from the last knot on.
-use record::refusal::Refusal;
-use shape::sections::Tail;
+use assembly::sections::Tail;
+use refusal::Refusal;
 ghost use mathlib.Core.Path.{_≡_};
 ghost use Rattle.curve.specs.Curve.{withExtrapolation, toldCurve};
 

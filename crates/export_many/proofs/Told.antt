@@ -5,11 +5,11 @@ use mathlib.Core.Path.{_≡_, ap, _∙_}
 use lib.Ieee.{Float}
 use lib.ListN.{length}
 use Rattle.section.specs.declared.section.Section.{Section}
-use Rattle.record.specs.declared.refusal.Verdict.{Verdict}
-use Rattle.shape.specs.Making.{left}
+use Rattle.refusal.specs.declared.Verdict.{Verdict}
+use Rattle.assembly.specs.Making.{left}
 use Rattle.curve.specs.declared.curve.Curve.{Curve}
-use Rattle.queries.specs.Many.{manyVerdict, answersAfter}
-use Rattle.export_many.specs.Many.{verdictNumber}
+use Rattle.query.specs.Many.{manyVerdict, answersAfter}
+use Rattle.refusal.specs.Refusal.{verdictNumber}
 
 -- the library's verdict and answers, of the curve that crossed
 pub many-told : (f : Section → Float → Float) (x : List Float) (j k : Curve) (tags : List ℕ) (slots qs old : List Float) (v : Verdict) (new : List Float) (n : ℕ) → j ≡ k →

@@ -1,22 +1,12 @@
 // Prices and running totals at many points of one curve, which is checked once.
-use export_number::asking::curve_with;
-use record::refusal::Verdict;
+use query::asked::curve_with;
 ghost use mathlib.Core.Path.{_≡_};
 ghost use lib.ListN.{length};
 ghost use Rattle.section.specs.Section.{value, primitive};
-ghost use Rattle.shape.specs.Making.{left};
-ghost use Rattle.queries.specs.Many.{manyVerdict, answersAfter};
-ghost use Rattle.export_number.specs.Asking.{curveWith};
-ghost use Rattle.export_many.specs.Many.{verdictNumber};
-
-fn verdict_number(verdict: Verdict) -> u8
-    ensures { λ r. ⌜ r ≡ verdictNumber verdict ⌝ }
-{
-    match verdict {
-        Verdict::Refused(refusal) => refusal.number(),
-        Verdict::Accepted => 0,
-    }
-}
+ghost use Rattle.assembly.specs.Making.{left};
+ghost use Rattle.query.specs.Many.{manyVerdict, answersAfter};
+ghost use Rattle.query.specs.Query.{curveWith};
+ghost use Rattle.refusal.specs.Refusal.{verdictNumber};
 
 // The price at each x, into the first entries of `answers`; where any x is refused, so are all, and nothing is written.
 #[no_mangle]
@@ -35,7 +25,7 @@ pub extern "C" fn havgrunel_values(
     ensures answers { λ _. ⌜ now (answers .exit) ≡ left (manyVerdict (now (knots .entry)) (curveWith «tail_value» «tail_total» «tail_from» extrapolate) (now (tags .entry)) (now (slots .entry)) (now (xs .entry)) (length (now (answers .entry)))) (answersAfter value (now (knots .entry)) (curveWith «tail_value» «tail_total» «tail_from» extrapolate) (now (tags .entry)) (now (slots .entry)) (now (xs .entry)) (now (answers .entry))) (now (answers .entry)) ⌝ }
 {
     let curve = curve_with(tail_value, tail_total, tail_from, extrapolate);
-    verdict_number(queries::many::values(knots, curve, tags, slots, xs, answers))
+    query::many::values(knots, curve, tags, slots, xs, answers).number()
 }
 
 // The total of all prices up to each x, in the same way.
@@ -55,5 +45,5 @@ pub extern "C" fn havgrunel_primitives(
     ensures answers { λ _. ⌜ now (answers .exit) ≡ left (manyVerdict (now (knots .entry)) (curveWith «tail_value» «tail_total» «tail_from» extrapolate) (now (tags .entry)) (now (slots .entry)) (now (xs .entry)) (length (now (answers .entry)))) (answersAfter primitive (now (knots .entry)) (curveWith «tail_value» «tail_total» «tail_from» extrapolate) (now (tags .entry)) (now (slots .entry)) (now (xs .entry)) (now (answers .entry))) (now (answers .entry)) ⌝ }
 {
     let curve = curve_with(tail_value, tail_total, tail_from, extrapolate);
-    verdict_number(queries::many::primitives(knots, curve, tags, slots, xs, answers))
+    query::many::primitives(knots, curve, tags, slots, xs, answers).number()
 }

@@ -10,16 +10,16 @@ use lib.ListN.{length, set, take, drop, length-take, length-drop}
 use Rattle.section.specs.Section as section
 use Rattle.section.specs.declared.section.Section.{Section}
 use Rattle.record.specs.Reader.{recordTests, recordVerdict, recordPart}
-use Rattle.record.specs.Refusal.{first, number, andThen}
-use Rattle.reading.specs.declared.reading.Found.{Found}
-use Rattle.reading.specs.declared.reading.Found.the-variants as found
-use Rattle.record.specs.declared.refusal.Refusal.{Refusal}
-use Rattle.record.specs.declared.refusal.Refusal.the-variants.{BufferTooShort, RecordNotLegal}
-use Rattle.record.specs.declared.refusal.Verdict.{Verdict}
-use Rattle.record.specs.declared.refusal.Verdict.the-variants as verdict
-use Rattle.record.proofs.First.{first-append}
+use Rattle.refusal.specs.Refusal.{first, number, verdictNumber, andThen}
+use Rattle.record.specs.declared.reading.Found.{Found}
+use Rattle.record.specs.declared.reading.Found.the-variants as found
+use Rattle.refusal.specs.declared.Refusal.{Refusal}
+use Rattle.refusal.specs.declared.Refusal.the-variants.{BufferTooShort, RecordNotLegal}
+use Rattle.refusal.specs.declared.Verdict.{Verdict}
+use Rattle.refusal.specs.declared.Verdict.the-variants as verdict
+use Rattle.refusal.proofs.First.{first-append}
 use Rattle.record.proofs.InRange.{in-range}
-use Rattle.export_section.specs.Records.{toldVerdict, copied, roomTest, copyVerdict, copyLeft, sectionRefusal, sectionLeft}
+use Rattle.export_section.specs.Records.{copied, roomTest, copyVerdict, copyLeft, sectionRefusal, sectionLeft}
 
 -- a record's own answers: not legal, no room for them, or written
 pub section-illegal : (f : Found) (n : ℕ) (x : Float) (old : List Float) → f ≡ found.Illegal → n ≡ number RecordNotLegal →
@@ -46,11 +46,11 @@ module _ (points : ℕ) (slots : List Float) (place : ℕ) (into : List Float) w
   pub passes : recordVerdict points (length slots) place ≡ verdict.Accepted → ltb (length into) 24 ≡ false → copyVerdict points slots place into ≡ verdict.Accepted
   passes e h = first-append (recordTests points (length slots) place) (roomTest into) ∙ ap (λ (v : Verdict). andThen v (first (roomTest into))) e ∙ rw h
 
-  pub copy-refused : (v : Verdict) (r : Refusal) (n : ℕ) → v ≡ verdict.Refused r → n ≡ number r → (n ≡ toldVerdict v) × (into ≡ copyLeft points slots place into v)
+  pub copy-refused : (v : Verdict) (r : Refusal) (n : ℕ) → v ≡ verdict.Refused r → n ≡ number r → (n ≡ verdictNumber v) × (into ≡ copyLeft points slots place into v)
   copy-refused v r n e h = (rw (e, h), rw e)
 
   pub copy-written : (v w : Verdict) (part new : List Float) → v ≡ verdict.Accepted → w ≡ verdict.Accepted → part ≡ recordPart w slots place → new ≡ copied part into →
-      (_≡_ {A = ℕ} 0 (toldVerdict v)) × (new ≡ copyLeft points slots place into v)
+      (_≡_ {A = ℕ} 0 (verdictNumber v)) × (new ≡ copyLeft points slots place into v)
   copy-written v w part new e f p h = (rw e, rw (e, h, p, f))
 
   -- an accepted record has all its slots

@@ -7,11 +7,11 @@ use borrow.Author.Tests.{lt-ltb, le-ltb}
 use lib.Ieee.{Float}
 use lib.ListN.{length, set}
 use Rattle.section.specs.declared.section.Section.{Section}
-use Rattle.record.specs.Refusal.{number}
+use Rattle.refusal.specs.Refusal.{number}
 use Rattle.record.specs.Slots.{slotsOf}
 use Rattle.record.specs.Tag.{tagOf}
-use Rattle.record.specs.declared.refusal.Refusal.the-variants.{BufferTooShort}
-use Rattle.export.specs.Building.{unless}
+use Rattle.refusal.specs.declared.Refusal.the-variants.{BufferTooShort}
+use Rattle.numbers.specs.Overlay.{unless}
 use Rattle.export_section.specs.Records.{copied}
 use Rattle.export_section.specs.Kinds.{noRecord, putRefusal, tagPut, slotsPut}
 

@@ -15,11 +15,12 @@ use Rattle.quadratic.specs.Quadratic
 use Rattle.quadratic.specs.QuadraticMin
 use Rattle.section.specs.declared.section.Section.{Section}
 use Rattle.section.specs.declared.section.Section.the-variants as section
-use Rattle.record.specs.Refusal.{number}
-use Rattle.record.specs.Slots.{slotCount, slotsOf}
+use Rattle.refusal.specs.Refusal.{number}
+use Rattle.numbers.specs.Sizes.{slotCount}
+use Rattle.record.specs.Slots.{slotsOf}
 use Rattle.record.specs.Tag.{tagOf}
-use Rattle.record.specs.declared.refusal.Refusal.the-variants.{BufferTooShort}
-use Rattle.export.specs.Building.{unless}
+use Rattle.refusal.specs.declared.Refusal.the-variants.{BufferTooShort}
+use Rattle.numbers.specs.Overlay.{unless}
 use Rattle.export_section.specs.Records.{copied}
 
 -- a record takes one tag and 24 slots

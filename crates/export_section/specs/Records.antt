@@ -8,17 +8,13 @@ use lib.ListN.{length, getD, set}
 use Rattle.numbers.specs.Overlay.{overlay}
 use Rattle.section.specs.Section as section
 use Rattle.record.specs.Reader.{recordTests, recordPart}
-use Rattle.record.specs.Refusal.{Test, _⇒_, first, number}
-use Rattle.record.specs.Slots.{slotCount}
-use Rattle.reading.specs.declared.reading.Found.{Found}
-use Rattle.reading.specs.declared.reading.Found.the-variants as found
-use Rattle.record.specs.declared.refusal.Refusal.the-variants.{BufferTooShort, RecordNotLegal}
-use Rattle.record.specs.declared.refusal.Verdict.{Verdict}
-use Rattle.record.specs.declared.refusal.Verdict.the-variants as verdict
-
-abbrev pub toldVerdict : Verdict → ℕ
-toldVerdict verdict.Accepted = 0
-toldVerdict (verdict.Refused r) = number r
+use Rattle.refusal.specs.Refusal.{Test, _⇒_, first, number}
+use Rattle.numbers.specs.Sizes.{slotCount}
+use Rattle.record.specs.declared.reading.Found.{Found}
+use Rattle.record.specs.declared.reading.Found.the-variants as found
+use Rattle.refusal.specs.declared.Refusal.the-variants.{BufferTooShort, RecordNotLegal}
+use Rattle.refusal.specs.declared.Verdict.{Verdict}
+use Rattle.refusal.specs.declared.Verdict.the-variants as verdict
 
 -- a list of numbers, written from the start
 abbrev pub copied : List Float → List Float → List Float

@@ -1,17 +1,18 @@
 // One section's record: its slots copied out, and what it answers by itself.
-use reading::reading::Found;
-use reading::reading::read_section;
+use numbers::SLOTS;
 use record::reader::record_slots;
 use record::reader::record_verdict;
-use record::refusal::Refusal;
-use record::refusal::Verdict;
-use record::slots::SLOTS;
+use record::reading::Found;
+use record::reading::read_section;
+use refusal::Refusal;
+use refusal::Verdict;
 ghost use mathlib.Core.Path.{_≡_};
 ghost use Prim.Native.Nat.{_≤_};
 ghost use lib.ListN.{length};
-ghost use Rattle.reading.specs.Reading.{readSection};
-ghost use Rattle.record.specs.Slots.{slotCount};
-ghost use Rattle.export_section.specs.Records.{toldVerdict, copied, copyVerdict, copyLeft, sectionRefusal, sectionLeft};
+ghost use Rattle.record.specs.Reading.{readSection};
+ghost use Rattle.numbers.specs.Sizes.{slotCount};
+ghost use Rattle.refusal.specs.Refusal.{verdictNumber};
+ghost use Rattle.export_section.specs.Records.{copied, copyVerdict, copyLeft, sectionRefusal, sectionLeft};
 
 // A record's slots, from the start of one slice to the start of another.
 pub(crate) fn copy(from: &[f64], to: &mut [f64])
@@ -31,7 +32,7 @@ pub extern "C" fn havgrunel_record(
     number: usize,
     into: &mut [f64],
 ) -> u8
-    ensures refusal { λ r. ⌜ r ≡ toldVerdict (copyVerdict points (now (slots .entry)) number (now (into .entry))) ⌝ }
+    ensures refusal { λ r. ⌜ r ≡ verdictNumber (copyVerdict points (now (slots .entry)) number (now (into .entry))) ⌝ }
     ensures into { λ _. ⌜ now (into .exit) ≡ copyLeft points (now (slots .entry)) number (now (into .entry)) (copyVerdict points (now (slots .entry)) number (now (into .entry))) ⌝ }
 {
     match record_verdict(points, slots, number) {

@@ -10,18 +10,18 @@ use Rattle.convex.specs.ConvexMonotone2 as cm2
 use Rattle.convex.specs.ConvexMonotone4 as cm4
 use Rattle.quadratic.specs.QuadraticMin as quadmin
 use Rattle.section.specs.Section as section
-use Rattle.reading.specs.Reading.{quadraticFrom, otherFrom, joined, readSection}
+use Rattle.record.specs.Reading.{quadraticFrom, otherFrom, joined, readSection}
 use Rattle.record.specs.Slots.{quadraticSlots, convexSlots, slotsOf}
 use Rattle.record.specs.Tag.{quadraticTag, convexTag, tagOf}
 use Rattle.table.specs.Check.{allFinite, rising}
 use Rattle.table.specs.Table.{middleAt, firstNode, lastNode, nodeAt, totalAt}
 use Rattle.table.specs.Table as nodes
 use Rattle.choice.specs.Choice.{firstRegion, mixed, shaped, sectionOf}
-use Rattle.parts.specs.ConvexPart.{atMost, atLeast, fourth, third, convexPart}
-use Rattle.parts.specs.ConvexPart as part
-use Rattle.parts.specs.QuadraticPart.{made, minKind}
-use Rattle.regions.specs.Regions.{flat, minFits, inFirst, inSecond, inThird}
-use Rattle.shape.specs.Sections.{sectionAt, tailOf}
+use Rattle.choice.specs.ConvexPart.{atMost, atLeast, fourth, third, convexPart}
+use Rattle.choice.specs.ConvexPart as part
+use Rattle.choice.specs.QuadraticPart.{made, minKind}
+use Rattle.choice.specs.Regions.{flat, minFits, inFirst, inSecond, inThird}
+use Rattle.assembly.specs.Sections.{sectionAt, tailOf}
 use Rattle.curve.specs.Build.{curveOf}
 use Rattle.query.specs.Query.{walk, covering}
 use Rattle.figures.specs.Figures.{same, table, agree}

@@ -12,17 +12,17 @@ use Rattle.quadratic.specs.QuadraticMin as quadmin
 use Rattle.quadratic.specs.declared.quadratic_min.QuadraticMin.{QuadraticMin}
 use Rattle.section.specs.Section as section
 use Rattle.section.specs.declared.section.Section.{Section}
-use Rattle.record.specs.Refusal.{number}
+use Rattle.refusal.specs.Refusal.{number}
 use Rattle.record.specs.Slots.{slotsOf}
 use Rattle.record.specs.Tag.{tagOf}
-use Rattle.record.specs.declared.refusal.Verdict.{Verdict}
-use Rattle.record.specs.declared.refusal.Verdict.the-variants as verdict
+use Rattle.refusal.specs.declared.Verdict.{Verdict}
+use Rattle.refusal.specs.declared.Verdict.the-variants as verdict
 use Rattle.table.specs.Method as method
 use Rattle.table.specs.declared.ends.End.the-variants as end
 use Rattle.table.specs.declared.ends.Seam.{Seam}
 use Rattle.table.specs.declared.ends.Seam.the-variants as seam
 use Rattle.table.specs.declared.method.ConvexMonotone.{ConvexMonotone}
-use Rattle.parts.specs.declared.period.Period.{Period}
+use Rattle.choice.specs.declared.period.Period.{Period}
 use Rattle.choice.specs.Choice.{sectionOf}
 use Rattle.curve.specs.Build as build
 use Rattle.curve.specs.Build.{buildVerdict, builtOf}

@@ -12,11 +12,11 @@ use lib.ListN.{length, take, drop, getD}
 use Rattle.numbers.proofs.Ways.{or-none, lt-or-le}
 use Rattle.section.specs.Section.{«f_next»}
 use Rattle.section.specs.declared.section.Section.{Section}
-use Rattle.reading.specs.Reading.{readSection}
-use Rattle.reading.specs.declared.reading.Found.{Found}
-use Rattle.reading.specs.declared.reading.Found.the-variants as found
-use Rattle.record.specs.declared.refusal.Refusal.{Refusal}
-use Rattle.record.specs.declared.refusal.Refusal.the-variants.{NoPreviousCurve, RecordNotLegal}
+use Rattle.record.specs.Reading.{readSection}
+use Rattle.record.specs.declared.reading.Found.{Found}
+use Rattle.record.specs.declared.reading.Found.the-variants as found
+use Rattle.refusal.specs.declared.Refusal.{Refusal}
+use Rattle.refusal.specs.declared.Refusal.the-variants.{NoPreviousCurve, RecordNotLegal}
 use Rattle.table.specs.declared.ends.Seam.{Seam}
 use Rattle.table.specs.declared.ends.Seam.the-variants as seam
 use Rattle.growth.specs.Growth.{firstWindow, seamAfter, beyond, seamOf, carriedAt, grown, grownLeft}

@@ -6,11 +6,11 @@ use lib.Dec.{eqb, ltb}
 use lib.Ieee.{Float}
 use lib.ListN.{length, take, drop, getD}
 use Rattle.section.specs.Section.{«f_next»}
-use Rattle.reading.specs.Reading.{readSection}
-use Rattle.record.specs.Slots.{slotCount}
-use Rattle.reading.specs.declared.reading.Found.{Found}
-use Rattle.reading.specs.declared.reading.Found.the-variants as found
-use Rattle.record.specs.declared.refusal.Refusal.the-variants.{NoPreviousCurve, RecordNotLegal}
+use Rattle.record.specs.Reading.{readSection}
+use Rattle.numbers.specs.Sizes.{slotCount}
+use Rattle.record.specs.declared.reading.Found.{Found}
+use Rattle.record.specs.declared.reading.Found.the-variants as found
+use Rattle.refusal.specs.declared.Refusal.the-variants.{NoPreviousCurve, RecordNotLegal}
 use Rattle.table.specs.declared.ends.Seam.{Seam}
 use Rattle.table.specs.declared.ends.Seam.the-variants as seam
 use Rattle.curve.specs.declared.curve.Curve.{Curve}

@@ -2,10 +2,10 @@
 use curve::build::build;
 use curve::curve::Built;
 use curve::curve::Curve;
-use reading::reading::Found;
-use reading::reading::read_section;
-use record::refusal::Refusal;
-use record::slots::SLOTS;
+use numbers::SLOTS;
+use record::reading::Found;
+use record::reading::read_section;
+use refusal::Refusal;
 use table::ends::Seam;
 use table::method::ConvexMonotone;
 ghost use mathlib.Core.Path.{_≡_};

@@ -1,3 +1,4 @@
 pub mod Words
 pub mod Overlay
 pub mod Every
+pub mod Sizes

@@ -6,7 +6,7 @@ use lib.Ieee.{Float, binary64, ofBits, toBits}
 use Rattle.numbers.specs.Words.{nought}
 use Rattle.numbers.proofs.Ways.{never}
 use Rattle.section.specs.declared.section.Section.{Section}
-use Rattle.record.specs.declared.refusal.Refusal.{Refusal}
+use Rattle.refusal.specs.declared.Refusal.{Refusal}
 use Rattle.query.specs.Query.{ask, toldNumber}
 use Rattle.query.specs.declared.asked.Covered.{Covered}
 use Rattle.query.specs.declared.asked.Covered.the-variants as covered

@@ -14,8 +14,8 @@ use lib.Seq.{take-suc-set, take-set-le}
 use Rattle.numbers.specs.Overlay.{overlay}
 use Rattle.numbers.proofs.Every.{and-split}
 use Rattle.numbers.proofs.Overlay.{overlay-same, overlay-join, length-overlay}
-use Rattle.record.specs.Refusal.{number}
-use Rattle.record.specs.declared.refusal.Refusal.{Refusal}
+use Rattle.refusal.specs.Refusal.{number}
+use Rattle.refusal.specs.declared.Refusal.{Refusal}
 use Rattle.curve.specs.Curve.{withExtrapolation}
 use Rattle.curve.specs.declared.curve.Curve.{Curve}
 use Rattle.curve.specs.declared.curve.Built.{Built}

@@ -6,7 +6,7 @@ use lib.Dec.{ltb}
 use lib.Ieee.{Float, binary64, toBits}
 use lib.ListN.{length, replicate}
 use Rattle.numbers.specs.Words.{nought}
-use Rattle.record.specs.Refusal.{number}
+use Rattle.refusal.specs.Refusal.{number}
 use Rattle.numbers.specs.Overlay.{overlay}
 use Rattle.section.specs.Section.{value, primitive}
 use Rattle.table.specs.declared.ends.Seam.the-variants as seam

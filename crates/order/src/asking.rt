@@ -1,8 +1,8 @@
 // What a query of an order is answered.
 use curve::curve::Curve;
-use queries::single::primitive;
-use queries::single::value;
 use query::asked::Asked;
+use query::single::primitive;
+use query::single::value;
 ghost use mathlib.Core.Path.{_≡_};
 ghost use Rattle.order.specs.Answer.{lineOf};
 

@@ -10,13 +10,13 @@ use lib.ListN.{length}
 use Rattle.section.specs.declared.section.Section.{Section}
 use Rattle.numbers.specs.Words.{nought}
 use Rattle.numbers.proofs.Ways.{or-none}
-use Rattle.record.specs.Refusal.{first, number}
-use Rattle.reading.specs.declared.reading.Found.{Found}
-use Rattle.reading.specs.declared.reading.Found.the-variants as found
-use Rattle.record.specs.declared.refusal.Refusal.{Refusal}
-use Rattle.record.specs.declared.refusal.Verdict.{Verdict}
-use Rattle.record.specs.declared.refusal.Verdict.the-variants as verdict
-use Rattle.record.proofs.First.{passed}
+use Rattle.refusal.specs.Refusal.{first, number}
+use Rattle.record.specs.declared.reading.Found.{Found}
+use Rattle.record.specs.declared.reading.Found.the-variants as found
+use Rattle.refusal.specs.declared.Refusal.{Refusal}
+use Rattle.refusal.specs.declared.Verdict.{Verdict}
+use Rattle.refusal.specs.declared.Verdict.the-variants as verdict
+use Rattle.refusal.proofs.First.{passed}
 use Rattle.table.specs.Check.{rising}
 use Rattle.query.specs.Query.{curveTests, coveredOf, toldNumber}
 use Rattle.query.specs.declared.asked.Asked.{Asked}

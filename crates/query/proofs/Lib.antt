@@ -1,6 +1,11 @@
+pub mod Alone
+pub mod Covering
+pub mod Enough
+pub mod Room
+pub mod Sides
+pub mod Unique
 pub mod Above
 pub mod Answers
 pub mod ReadBack
-pub mod Unique
 pub mod Walk
 pub mod Whole

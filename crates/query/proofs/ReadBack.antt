@@ -11,20 +11,20 @@ use Rattle.numbers.proofs.Ways.{or-none}
 use Rattle.numbers.proofs.Overlay.{length-overlay}
 use Rattle.section.specs.Section.{value, primitive}
 use Rattle.section.specs.declared.section.Section.{Section}
-use Rattle.record.specs.Refusal.{first}
-use Rattle.reading.specs.declared.reading.Found.{Found}
-use Rattle.reading.specs.declared.reading.Found.the-variants as found
-use Rattle.record.specs.declared.refusal.Verdict.the-variants as verdict
-use Rattle.record.proofs.First.{passed, accepted}
+use Rattle.refusal.specs.Refusal.{first}
+use Rattle.record.specs.declared.reading.Found.{Found}
+use Rattle.record.specs.declared.reading.Found.the-variants as found
+use Rattle.refusal.specs.declared.Verdict.the-variants as verdict
+use Rattle.refusal.proofs.First.{passed, accepted}
 use Rattle.table.specs.Table.{at}
 use Rattle.table.specs.declared.method.ConvexMonotone.{ConvexMonotone}
 use Rattle.table.specs.declared.ends.Frame.{Frame}
 use Rattle.table.specs.declared.ends.Seam.{Seam}
 use Rattle.curve.specs.Build.{buildTests}
-use Rattle.shape.specs.Making.{tagsAfter, slotsAfter}
+use Rattle.assembly.specs.Making.{tagsAfter, slotsAfter}
 use Rattle.query.specs.Query.{queryTests, outside, placeOf, tailSection, covering, coveredAt, ask}
-use Rattle.shape.specs.Sections.{sectionAt, tagAt, slotAt}
-use Rattle.shape.proofs.ReadBack.{record-read-back}
+use Rattle.assembly.specs.Sections.{sectionAt, tagAt, slotAt}
+use Rattle.assembly.proofs.ReadBack.{record-read-back}
 use Rattle.curve.specs.declared.curve.Curve.{Curve}
 use Rattle.query.specs.declared.asked.Covered.{Covered}
 use Rattle.query.specs.declared.asked.Covered.the-variants as covered

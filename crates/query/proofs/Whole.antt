@@ -6,7 +6,7 @@ use mathlib.Core.Path.{_≡_}
 use lib.Ieee.{Float, ne}
 use lib.ListN.{length}
 use Rattle.section.specs.declared.section.Section.{Section}
-use Rattle.record.specs.declared.refusal.Verdict.the-variants as verdict
+use Rattle.refusal.specs.declared.Verdict.the-variants as verdict
 use Rattle.table.specs.declared.method.ConvexMonotone.{ConvexMonotone}
 use Rattle.table.specs.declared.ends.Frame.{Frame}
 use Rattle.table.specs.declared.ends.Seam.{Seam}
@@ -14,7 +14,7 @@ use Rattle.curve.specs.Build.{buildVerdict, wholeFrame, curveOf, builtOf, tagsL
 use Rattle.curve.specs.Curve.{withExtrapolation}
 use Rattle.growth.specs.Growth.{grown, grownLeft}
 use Rattle.query.specs.Query.{outside, coveredAt, ask}
-use Rattle.shape.specs.Sections.{tailOf}
+use Rattle.assembly.specs.Sections.{tailOf}
 use Rattle.curve.specs.declared.curve.Curve.{Curve}
 use Rattle.curve.specs.declared.curve.Built.the-variants as built
 use Rattle.growth.specs.declared.growth.Carried.{Carried}

@@ -10,15 +10,15 @@ use Rattle.section.specs.EverywhereConstant as constant
 use Rattle.section.specs.Section as section
 use Rattle.section.specs.declared.section.Section.{Section}
 use Rattle.section.specs.declared.section.Section.the-variants as kind
-use Rattle.reading.specs.Reading.{recordAt}
-use Rattle.record.specs.Refusal.{Test, _⇒_, first, number}
-use Rattle.record.specs.Slots.{slotCount}
-use Rattle.reading.specs.declared.reading.Found.{Found}
-use Rattle.reading.specs.declared.reading.Found.the-variants as found
-use Rattle.record.specs.declared.refusal.Refusal.{Refusal}
-use Rattle.record.specs.declared.refusal.Refusal.the-variants.{TooFewPoints, KnotNotFinite, KnotsNotRising, TooManyPoints, BufferTooShort, QueryNotANumber, QueryOutside, RecordNotLegal}
-use Rattle.record.specs.declared.refusal.Verdict.{Verdict}
-use Rattle.record.specs.declared.refusal.Verdict.the-variants as verdict
+use Rattle.record.specs.Reading.{recordAt}
+use Rattle.refusal.specs.Refusal.{Test, _⇒_, first, number}
+use Rattle.numbers.specs.Sizes.{slotCount}
+use Rattle.record.specs.declared.reading.Found.{Found}
+use Rattle.record.specs.declared.reading.Found.the-variants as found
+use Rattle.refusal.specs.declared.Refusal.{Refusal}
+use Rattle.refusal.specs.declared.Refusal.the-variants.{TooFewPoints, KnotNotFinite, KnotsNotRising, TooManyPoints, BufferTooShort, QueryNotANumber, QueryOutside, RecordNotLegal}
+use Rattle.refusal.specs.declared.Verdict.{Verdict}
+use Rattle.refusal.specs.declared.Verdict.the-variants as verdict
 use Rattle.table.specs.Check.{allFinite, rising}
 use Rattle.table.specs.Table.{at}
 use Rattle.curve.specs.declared.curve.Curve.{Curve}
@@ -27,6 +27,10 @@ use Rattle.query.specs.declared.asked.Covered.the-variants as covered
 use Rattle.query.specs.declared.asked.Asked.{Asked}
 use Rattle.query.specs.declared.asked.Asked.the-variants as asked
 use Rattle.query.specs.declared.asked.ToldNumber.{ToldNumber}
+
+-- a query reads the record and whether it may leave the knots, and no more
+abbrev pub curveWith : Float → Float → Float → Bool → Curve
+curveWith value total from allow = record { sections = 0; held = false; extrapolates = allow; tail = record { value = value; total = total; from = from } }
 
 -- inside the knots, or allowed outside them
 abbrev pub outside : List Float → Curve → Float → Bool

@@ -1,17 +1,18 @@
 // What a query is refused for, and what it is answered. Prices and totals themselves are asked of `queries`.
+use assembly::sections::Tail;
 use curve::curve::Curve;
-use record::refusal::Refusal;
-use record::refusal::Verdict;
-use record::slots::SLOTS;
+use numbers::SLOTS;
+use refusal::Refusal;
+use refusal::Verdict;
 use section::section::Section;
 use table::check::knots_of;
 ghost use mathlib.Core.Path.{_≡_};
 ghost use mathlib.Core.Bool.{_||_};
 ghost use Prim.Native.Nat.{_-_, _*_, _≤_};
 ghost use lib.Dec.{ltb};
-ghost use Rattle.record.specs.Refusal.{first};
-ghost use Rattle.record.specs.Slots.{slotCount};
-ghost use Rattle.query.specs.Query.{outside, curveTests, pointTests, queryTests, toldNumber};
+ghost use Rattle.refusal.specs.Refusal.{first};
+ghost use Rattle.numbers.specs.Sizes.{slotCount};
+ghost use Rattle.query.specs.Query.{outside, curveTests, pointTests, queryTests, toldNumber, curveWith};
 
 // The section that answers a query, or why there is none. Only the definitions speak of it: the code goes from the slots of a record straight to the number.
 pub enum Covered {
@@ -29,6 +30,19 @@ pub enum Asked {
 pub struct ToldNumber {
     pub refusal: u8,
     pub answer: f64,
+}
+
+// What a query reads of a curve beside its knots and records. It asks neither how many sections there are nor whether the last is held.
+pub fn curve_with(value: f64, total: f64, from: f64, extrapolates: bool) -> Curve
+    ensures { λ r. ⌜ r ≡ curveWith value total from extrapolates ⌝ }
+{
+    let tail = Tail { value, total, from };
+    Curve {
+        sections: 0,
+        held: false,
+        extrapolates,
+        tail,
+    }
 }
 
 impl Asked {
@@ -72,7 +86,7 @@ fn is_outside(xs: &[f64], curve: Curve, q: f64) -> bool
 }
 
 // What is asked whatever the query: refusals 4, 5, 7, 10 and 11, for lent records of these lengths.
-pub fn curve_verdict(xs: &[f64], tags: usize, slots: usize) -> Verdict
+pub(crate) fn curve_verdict(xs: &[f64], tags: usize, slots: usize) -> Verdict
     ensures { λ r. ⌜ r ≡ first (curveTests (now (xs .entry)) tags slots) ⌝ }
 {
     if xs.len() < 2 {
@@ -95,7 +109,7 @@ pub fn curve_verdict(xs: &[f64], tags: usize, slots: usize) -> Verdict
 }
 
 // What is asked of the query itself: refusals 12 and 13.
-pub fn point_verdict(xs: &[f64], curve: Curve, q: f64) -> Verdict
+pub(crate) fn point_verdict(xs: &[f64], curve: Curve, q: f64) -> Verdict
     ensures { λ r. ⌜ r ≡ first (pointTests (now (xs .entry)) curve q) ⌝ }
 {
     if q != q {
@@ -108,7 +122,7 @@ pub fn point_verdict(xs: &[f64], curve: Curve, q: f64) -> Verdict
 }
 
 // The first refusal of a query, short of an illegal record.
-pub fn query_verdict(xs: &[f64], curve: Curve, tags: usize, slots: usize, q: f64) -> Verdict
+pub(crate) fn query_verdict(xs: &[f64], curve: Curve, tags: usize, slots: usize, q: f64) -> Verdict
     ensures { λ r. ⌜ r ≡ first (queryTests (now (xs .entry)) curve tags slots q) ⌝ }
 {
     let verdict = curve_verdict(xs, tags, slots);

@@ -1,2 +1,6 @@
-// Queries of a curve that was built: what each is refused for, and what kind of answer it gets. `queries` answers them.
+// Queries of a curve: what each is refused for, the price at a point or the total up to it, and many of either at once, for which the curve is checked once.
 pub mod asked;
+pub mod many;
+mod number;
+mod place;
+pub mod single;

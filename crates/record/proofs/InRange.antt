@@ -3,8 +3,8 @@ use Prim.Native.Nat.{ℕ, _-_, _*_, _≤_, _<_}
 use mathlib.Core.Path.{_≡_}
 use borrow.Author.Tests.{ltb-false, leb-false}
 use Rattle.record.specs.Reader.{recordTests, recordVerdict}
-use Rattle.record.specs.declared.refusal.Verdict.the-variants.{Accepted}
-use Rattle.record.proofs.First.{passed}
+use Rattle.refusal.specs.declared.Verdict.the-variants.{Accepted}
+use Rattle.refusal.proofs.First.{passed}
 
 pub record InRange (points room number : ℕ) : Type 0 where
   pub low : 2 ≤ points

@@ -1,5 +1,7 @@
+pub mod Unique
+pub mod RoundTrip
+pub mod Legal
+pub mod Numbers
 pub mod Cells
-pub mod First
 pub mod InRange
 pub mod Tags
-pub mod Unique

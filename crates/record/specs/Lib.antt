@@ -1,4 +1,6 @@
-pub mod Refusal
+pub mod Legal
+pub mod Reading
+pub mod Number
 pub mod Tag
 pub mod Slots
 pub mod Reader

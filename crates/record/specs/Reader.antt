@@ -4,11 +4,11 @@ use mathlib.Core.List.{List, [], _∷_}
 use lib.Dec.{ltb, leb}
 use lib.Ieee.{Float}
 use lib.ListN.{take, drop}
-use Rattle.record.specs.Refusal.{Test, _⇒_, first}
-use Rattle.record.specs.Slots.{slotCount}
-use Rattle.record.specs.declared.refusal.Refusal.the-variants.{TooFewPoints, TooManyPoints, BufferTooShort, RecordNotLegal}
-use Rattle.record.specs.declared.refusal.Verdict.{Verdict}
-use Rattle.record.specs.declared.refusal.Verdict.the-variants.{Accepted, Refused}
+use Rattle.refusal.specs.Refusal.{Test, _⇒_, first}
+use Rattle.numbers.specs.Sizes.{slotCount}
+use Rattle.refusal.specs.declared.Refusal.the-variants.{TooFewPoints, TooManyPoints, BufferTooShort, RecordNotLegal}
+use Rattle.refusal.specs.declared.Verdict.{Verdict}
+use Rattle.refusal.specs.declared.Verdict.the-variants.{Accepted, Refused}
 
 -- refused in the order 4, 10, 11, 15
 abbrev pub recordTests : ℕ → ℕ → ℕ → List Test

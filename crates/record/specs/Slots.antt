@@ -19,10 +19,6 @@ use Rattle.section.specs.declared.convex_monotone_part.ConvexMonotonePart.the-v
 use Rattle.section.specs.declared.section.Section.{Section}
 use Rattle.section.specs.declared.section.Section.the-variants as section
 
--- how many slots a record has
-abbrev pub slotCount : ℕ
-slotCount = 24
-
 -- the weight, 12 slots for the quadratic part, 11 for the other
 abbrev pub layout : Float → List Float → List Float → List Float
 layout weight quadratic other = weight ∷ (quadratic ++ other)

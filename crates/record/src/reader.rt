@@ -1,7 +1,7 @@
 // The slots of one section's record, handed back as a part of the lent slots.
-use crate::refusal::Refusal;
-use crate::refusal::Verdict;
-use crate::slots::SLOTS;
+use numbers::SLOTS;
+use refusal::Refusal;
+use refusal::Verdict;
 ghost use mathlib.Core.Path.{_≡_};
 ghost use lib.ListN.{length};
 ghost use Rattle.record.specs.Reader.{recordVerdict, recordPart};

@@ -1,12 +1,10 @@
 // The slots of a record: the weight, then the quadratic part's fields, then the other part's.
+use numbers::SLOTS;
 use section::convex_monotone_part::ConvexMonotonePart;
 use section::quadratic_part::QuadraticPart;
 use section::section::Section;
 ghost use mathlib.Core.Path.{_≡_};
 ghost use Rattle.record.specs.Slots.{layout, quadraticSlots, convexSlots, slotsOf};
-
-// How many slots a record has.
-pub const SLOTS: usize = 24;
 
 fn quadratic_slots(part: QuadraticPart) -> [f64; 12]
     ensures { λ r. ⌜ r ≡ quadraticSlots part ⌝ }

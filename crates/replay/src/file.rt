@@ -1,8 +1,8 @@
 // A file of answers, line by line.
 use crate::groups::State;
 use crate::seen::Seen;
-use lines::words;
-use lines::words::MOST;
+use crate::words;
+use crate::words::MOST;
 
 // What a line of this letter and so many words adds.
 fn known(letter: u8, words: &[u64; MOST], count: usize, state: State) -> State {
@@ -59,7 +59,7 @@ fn line(text: &[u8], at: usize, state: State) -> State {
     known(text[at], &values, found.count, state)
 }
 
-pub fn replay(text: &[u8]) -> Seen {
+pub(crate) fn replay(text: &[u8]) -> Seen {
     let mut state = State::first();
     let mut at = 0;
     while at < text.len() {

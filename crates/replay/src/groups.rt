@@ -1,23 +1,23 @@
 // The lines about one section or one curve: first how it is made, then its records, then what it answers.
+use crate::curves;
+use crate::cuts;
+use crate::cuts::Cut;
+use crate::growths;
+use crate::kept;
+use crate::kept::Kept;
+use crate::kept::Outcome;
+use crate::records;
+use crate::records::Record;
+use crate::roots;
+use crate::sections;
 use crate::seen::Seen;
-use answers::records;
-use answers::records::Record;
-use answers::roots;
-use answers::sections;
+use crate::tables;
+use crate::words::MOST;
 use curve::curve::Curve;
-use curveanswers::curves;
-use curveanswers::cuts;
-use curveanswers::cuts::Cut;
-use curveanswers::growths;
-use curveanswers::kept;
-use curveanswers::kept::Kept;
-use curveanswers::kept::Outcome;
-use curveanswers::tables;
-use lines::words::MOST;
 
 // What the next lines are about: a section whose record is not told yet, or that is asked; an outcome that is not told yet; a curve of which so many
 // records were told, one whose end was told too, or one that is told whole and is asked.
-pub enum Subject {
+pub(crate) enum Subject {
     Nothing,
     Made,
     ReadBack,
@@ -28,7 +28,7 @@ pub enum Subject {
 }
 
 // The record counts while the subject is its section. What is kept of the last table is grown from, whatever sound line came since, until it is forgotten.
-pub struct State {
+pub(crate) struct State {
     pub seen: Seen,
     pub subject: Subject,
     pub record: Record,
@@ -36,7 +36,7 @@ pub struct State {
 }
 
 impl State {
-    pub fn first() -> Self {
+    pub(crate) fn first() -> Self {
         let seen = Seen::none();
         let record = records::none();
         let kept = kept::none();
@@ -70,24 +70,24 @@ impl State {
     }
 
     // No section and no curve is kept.
-    pub fn forget(self) -> Self {
+    pub(crate) fn forget(self) -> Self {
         let seen = self.seen;
         self.with_kept(seen, Subject::Nothing, kept::none())
     }
 
     // A line that tells nothing, after which no section and no curve is trusted either.
-    pub fn strange_line(self) -> Self {
+    pub(crate) fn strange_line(self) -> Self {
         let seen = self.seen;
         self.with_kept(seen.strange_line(), Subject::Nothing, kept::none())
     }
 
-    pub fn root(self, words: &[u64; MOST]) -> Self {
+    pub(crate) fn root(self, words: &[u64; MOST]) -> Self {
         let seen = self.seen;
         let subject = self.subject;
         self.with(seen.root(roots::agrees(words[0], words[1])), subject)
     }
 
-    pub fn section(self, words: &[u64; MOST], count: usize) -> Self {
+    pub(crate) fn section(self, words: &[u64; MOST], count: usize) -> Self {
         let record = sections::of_words(words, count);
         if record.tag == 0 {
             return self.strange_line();
@@ -103,7 +103,7 @@ impl State {
         }
     }
 
-    pub fn record(self, words: &[u64; MOST]) -> Self {
+    pub(crate) fn record(self, words: &[u64; MOST]) -> Self {
         let subject = self.subject;
         match subject {
             Subject::Made => self.section_record(words),
@@ -126,7 +126,7 @@ impl State {
         )
     }
 
-    pub fn query(self, words: &[u64; MOST]) -> Self {
+    pub(crate) fn query(self, words: &[u64; MOST]) -> Self {
         let subject = self.subject;
         let Subject::ReadBack = subject else {
             return self.strange_line();
@@ -134,7 +134,7 @@ impl State {
         let seen = self.seen;
         let record = self.record;
         self.with(
-            seen.query(answers::queries::agrees(record, words[0], words[1], words[2])),
+            seen.query(crate::queries::agrees(record, words[0], words[1], words[2])),
             subject,
         )
     }
@@ -158,17 +158,17 @@ impl State {
         self.with(seen.cut(found.refused, found.agrees), subject)
     }
 
-    pub fn table(self, words: &[u64; MOST], count: usize) -> Self {
+    pub(crate) fn table(self, words: &[u64; MOST], count: usize) -> Self {
         let kept = tables::of_words(words, count);
         self.cut(cuts::of_words(words, count, kept)).outcome(kept)
     }
 
-    pub fn growth(self, words: &[u64; MOST], count: usize) -> Self {
+    pub(crate) fn growth(self, words: &[u64; MOST], count: usize) -> Self {
         let last = self.kept;
         self.outcome(growths::of_words(words, count, last))
     }
 
-    pub fn told(self, words: &[u64; MOST]) -> Self {
+    pub(crate) fn told(self, words: &[u64; MOST]) -> Self {
         let subject = self.subject;
         let Subject::Outcome = subject else {
             return self.strange_line();
@@ -195,7 +195,7 @@ impl State {
         )
     }
 
-    pub fn tail(self, words: &[u64; MOST]) -> Self {
+    pub(crate) fn tail(self, words: &[u64; MOST]) -> Self {
         let subject = self.subject;
         let Subject::Curve(made, lines) = subject else {
             return self.strange_line();
@@ -210,7 +210,7 @@ impl State {
         )
     }
 
-    pub fn nodes(self, words: &[u64; MOST], count: usize) -> Self {
+    pub(crate) fn nodes(self, words: &[u64; MOST], count: usize) -> Self {
         let subject = self.subject;
         let Subject::Ended(made) = subject else {
             return self.strange_line();
@@ -226,7 +226,7 @@ impl State {
         )
     }
 
-    pub fn curve_query(self, words: &[u64; MOST]) -> Self {
+    pub(crate) fn curve_query(self, words: &[u64; MOST]) -> Self {
         let subject = self.subject;
         let Subject::Whole(made) = subject else {
             return self.strange_line();

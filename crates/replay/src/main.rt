@@ -1,7 +1,18 @@
 // Replays the original's answers: reads its file from standard input, works each answer out again and counts what differs.
+mod curves;
+mod cuts;
 mod file;
 mod groups;
+mod growths;
+mod kept;
+mod points;
+mod queries;
+mod records;
+mod roots;
+mod sections;
 mod seen;
+mod tables;
+mod words;
 
 use crate::seen::Curves;
 use crate::seen::Seen;

@@ -2,10 +2,10 @@
 ghost use Prim.Native.Nat.{_<_};
 
 // The nine kinds, of which two are split or not.
-pub const KINDS: usize = 11;
+pub(crate) const KINDS: usize = 11;
 
 // What was seen of the curves that were built, or of those that were grown.
-pub struct Curves {
+pub(crate) struct Curves {
     pub asked: u64,
     pub refused: u64,
     pub made: u64,
@@ -14,12 +14,12 @@ pub struct Curves {
 }
 
 // What was seen of the tables that were built in sheets too.
-pub struct Sheets {
+pub(crate) struct Sheets {
     pub made: u64,
     pub refused: u64,
 }
 
-pub struct Seen {
+pub(crate) struct Seen {
     pub roots: u64,
     pub sections: [u64; KINDS],
     pub records: u64,
@@ -113,7 +113,7 @@ impl Sheets {
 }
 
 impl Seen {
-    pub fn none() -> Self {
+    pub(crate) fn none() -> Self {
         let built = Curves::none();
         let grown = Curves::none();
         let sheets = Sheets::none();
@@ -137,24 +137,24 @@ impl Seen {
         self
     }
 
-    pub fn root(mut self, agrees: bool) -> Self {
+    pub(crate) fn root(mut self, agrees: bool) -> Self {
         self.roots = more(self.roots);
         self.judged(agrees)
     }
 
-    pub fn section(mut self, tag: u16) -> Self {
+    pub(crate) fn section(mut self, tag: u16) -> Self {
         let kind = kind_of(tag);
         let n = self.sections[kind];
         self.sections[kind] = more(n);
         self
     }
 
-    pub fn record(mut self, agrees: bool) -> Self {
+    pub(crate) fn record(mut self, agrees: bool) -> Self {
         self.records = more(self.records);
         self.judged(agrees)
     }
 
-    pub fn query(mut self, agrees: bool) -> Self {
+    pub(crate) fn query(mut self, agrees: bool) -> Self {
         self.queries = more(self.queries);
         self.judged(agrees)
     }
@@ -178,38 +178,38 @@ impl Seen {
     }
 
     // A table that was built in sheets too: whether it was refused, and whether they came to what the whole did.
-    pub fn cut(mut self, refused: bool, agrees: bool) -> Self {
+    pub(crate) fn cut(mut self, refused: bool, agrees: bool) -> Self {
         let sheets = self.sheets;
         self.sheets = sheets.cut(refused);
         self.judged(agrees)
     }
 
-    pub fn curve(self, grown: bool) -> Self {
+    pub(crate) fn curve(self, grown: bool) -> Self {
         self.with_curves(grown, self.curves(grown).asked())
     }
 
     // What is told of a build or a growth: a refusal or a curve.
-    pub fn told(self, grown: bool, refused: bool, agrees: bool) -> Self {
+    pub(crate) fn told(self, grown: bool, refused: bool, agrees: bool) -> Self {
         self.with_curves(grown, self.curves(grown).told(refused))
             .judged(agrees)
     }
 
-    pub fn curve_record(self, grown: bool, agrees: bool) -> Self {
+    pub(crate) fn curve_record(self, grown: bool, agrees: bool) -> Self {
         self.with_curves(grown, self.curves(grown).record())
             .judged(agrees)
     }
 
     // A line about a curve that is counted by another.
-    pub fn curve_line(self, agrees: bool) -> Self {
+    pub(crate) fn curve_line(self, agrees: bool) -> Self {
         self.judged(agrees)
     }
 
-    pub fn curve_query(self, grown: bool, agrees: bool) -> Self {
+    pub(crate) fn curve_query(self, grown: bool, agrees: bool) -> Self {
         self.with_curves(grown, self.curves(grown).query())
             .judged(agrees)
     }
 
-    pub fn strange_line(mut self) -> Self {
+    pub(crate) fn strange_line(mut self) -> Self {
         self.strange = more(self.strange);
         self
     }

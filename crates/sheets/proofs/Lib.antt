@@ -1,2 +1,10 @@
-pub mod Parts
+pub mod Alike
+pub mod Strokes
+pub mod Cuts
+pub mod Together
+pub mod SameCurve
+pub mod Drawing
+pub mod Called
+pub mod Figures
 pub mod Unique
+pub mod Parts

@@ -15,17 +15,17 @@ use Rattle.numbers.specs.Overlay.{overlay}
 use Rattle.numbers.proofs.Overlay.{drop-overlay, take-overlay}
 use Rattle.numbers.proofs.Every.{and-split}
 use Rattle.numbers.proofs.Ways.{never, or-none}
-use Rattle.record.specs.Refusal.{first, andThen}
-use Rattle.record.specs.declared.refusal.Refusal.{Refusal}
-use Rattle.record.specs.declared.refusal.Refusal.the-variants.{NoGivenNode, TooManyPoints, BufferTooShort}
-use Rattle.record.specs.declared.refusal.Verdict.{Verdict}
-use Rattle.record.specs.declared.refusal.Verdict.the-variants as verdict
-use Rattle.record.proofs.First.{passed, first-append}
+use Rattle.refusal.specs.Refusal.{first, andThen}
+use Rattle.refusal.specs.declared.Refusal.{Refusal}
+use Rattle.refusal.specs.declared.Refusal.the-variants.{NoGivenNode, TooManyPoints, BufferTooShort}
+use Rattle.refusal.specs.declared.Verdict.{Verdict}
+use Rattle.refusal.specs.declared.Verdict.the-variants as verdict
+use Rattle.refusal.proofs.First.{passed, first-append}
 use Rattle.table.specs.Check.{tableTests, noRoom, roomTests}
 use Rattle.table.specs.declared.method.ConvexMonotone.{ConvexMonotone}
 use Rattle.table.specs.declared.ends.End.{End}
-use Rattle.shape.specs.Making.{sizeTests, left}
-use Rattle.shape.proofs.Sizes.{only-room}
+use Rattle.assembly.specs.Making.{sizeTests, left}
+use Rattle.assembly.proofs.Sizes.{only-room}
 use Rattle.sheets.specs.Sheet.{noneGiven, numbersTests, sheetTests, answer, reaches, toldSheet}
 use Rattle.sheets.specs.declared.sheet.SheetEnd.{SheetEnd}
 use Rattle.sheets.specs.declared.sheet.Drawn.{Drawn}

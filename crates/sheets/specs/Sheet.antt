@@ -6,20 +6,20 @@ use lib.Dec.{leb}
 use lib.Ieee.{Float}
 use lib.ListN.{length}
 use Rattle.numbers.specs.Words.{nought}
-use Rattle.record.specs.Refusal.{Test, first, number, _⇒_}
-use Rattle.record.specs.Slots.{slotCount}
-use Rattle.record.specs.declared.refusal.Refusal.the-variants.{NoGivenNode}
-use Rattle.record.specs.declared.refusal.Verdict.{Verdict}
-use Rattle.record.specs.declared.refusal.Verdict.the-variants as verdict
+use Rattle.refusal.specs.Refusal.{Test, first, number, _⇒_}
+use Rattle.numbers.specs.Sizes.{slotCount}
+use Rattle.refusal.specs.declared.Refusal.the-variants.{NoGivenNode}
+use Rattle.refusal.specs.declared.Verdict.{Verdict}
+use Rattle.refusal.specs.declared.Verdict.the-variants as verdict
 use Rattle.table.specs.Check.{tableTests, roomTests}
 use Rattle.table.specs.declared.method.ConvexMonotone.{ConvexMonotone}
 use Rattle.table.specs.declared.ends.End.{End}
 use Rattle.table.specs.declared.ends.End.the-variants as end
 use Rattle.table.specs.declared.ends.Seam.the-variants as seam
 use Rattle.table.specs.declared.ends.Frame.{Frame}
-use Rattle.shape.specs.Sections.{tailOf}
-use Rattle.shape.specs.Making.{sizeTests, left, nodesAfter, tagsAfter, slotsAfter}
-use Rattle.shape.specs.declared.sections.Tail.{Tail}
+use Rattle.assembly.specs.Sections.{tailOf}
+use Rattle.assembly.specs.Making.{sizeTests, left, nodesAfter, tagsAfter, slotsAfter}
+use Rattle.assembly.specs.declared.sections.Tail.{Tail}
 use Rattle.sheets.specs.declared.sheet.SheetEnd.{SheetEnd}
 use Rattle.sheets.specs.declared.sheet.Drawn.{Drawn}
 use Rattle.sheets.specs.declared.sheet.Drawn.the-variants as drawn

@@ -1,10 +1,10 @@
 // One sheet of a table.
-use record::refusal::Refusal;
-use record::refusal::Verdict;
-use record::slots::SLOTS;
-use shape::making::Made;
-use shape::making::make;
-use shape::sections::Tail;
+use assembly::making::Made;
+use assembly::making::make;
+use assembly::sections::Tail;
+use numbers::SLOTS;
+use refusal::Refusal;
+use refusal::Verdict;
 use table::check::room_verdict;
 use table::check::table_verdict;
 use table::ends::End;
@@ -14,9 +14,9 @@ use table::method::ConvexMonotone;
 ghost use mathlib.Core.Path.{_≡_};
 ghost use Prim.Native.Nat.{_-_, _*_, _≤_};
 ghost use lib.ListN.{length};
-ghost use Rattle.record.specs.Refusal.{first};
-ghost use Rattle.shape.specs.Making.{sizeTests, madeOf, left, nodesAfter, tagsAfter, slotsAfter};
-ghost use Rattle.shape.specs.Sections.{tailOf};
+ghost use Rattle.refusal.specs.Refusal.{first};
+ghost use Rattle.assembly.specs.Making.{sizeTests, madeOf, left, nodesAfter, tagsAfter, slotsAfter};
+ghost use Rattle.assembly.specs.Sections.{tailOf};
 ghost use Rattle.sheets.specs.Sheet.{noneGiven, numbersTests, sheetTests, reaches, sheetFrame, noTail, endOf, partVerdict, drawnOf, nodesLeft, tagsLeft, slotsLeft, toldSheet};
 
 // The total after a sheet's last section, and the record beyond its last knot: three +0.0 where another sheet goes on from there.
@@ -38,7 +38,7 @@ pub struct ToldSheet {
     pub tail: Tail,
 }
 
-pub fn no_tail() -> Tail
+pub(crate) fn no_tail() -> Tail
     ensures { λ r. ⌜ r ≡ noTail ⌝ }
 {
     Tail {

@@ -7,9 +7,9 @@ use lib.Ieee.{Float, lt, le}
 use lib.ListN.{length}
 use Rattle.numbers.specs.Every.{allBelow}
 use Rattle.numbers.specs.Words.{nought, one, finite}
-use Rattle.record.specs.Refusal.{Test, _⇒_}
-use Rattle.record.specs.Slots.{slotCount}
-use Rattle.record.specs.declared.refusal.Refusal.the-variants.{LengthsDiffer, MonotonicityOutside, QuadraticityOutside, TooFewPoints, KnotNotFinite, AverageNotFinite, KnotsNotRising, SeamTooLong, TooManyPoints, BufferTooShort}
+use Rattle.refusal.specs.Refusal.{Test, _⇒_}
+use Rattle.numbers.specs.Sizes.{slotCount}
+use Rattle.refusal.specs.declared.Refusal.the-variants.{LengthsDiffer, MonotonicityOutside, QuadraticityOutside, TooFewPoints, KnotNotFinite, AverageNotFinite, KnotsNotRising, SeamTooLong, TooManyPoints, BufferTooShort}
 use Rattle.table.specs.declared.check.Knots.{Knots}
 use Rattle.table.specs.declared.method.ConvexMonotone.{ConvexMonotone}
 use Rattle.table.specs.declared.ends.Seam.{Seam}

@@ -1,15 +1,15 @@
 // What is asked of a table, in the order in which it is refused.
 use crate::ends::Seam;
 use crate::method::ConvexMonotone;
-use record::refusal::Refusal;
-use record::refusal::Verdict;
-use record::slots::SLOTS;
+use numbers::SLOTS;
+use refusal::Refusal;
+use refusal::Verdict;
 ghost use mathlib.Core.Path.{_≡_};
 ghost use mathlib.Core.Bool.{_&&_, _||_};
 ghost use mathlib.Core.List.{[], _∷_};
 ghost use Prim.Native.Nat.{_≤_};
 ghost use lib.ListN.{length};
-ghost use Rattle.record.specs.Refusal.{first};
+ghost use Rattle.refusal.specs.Refusal.{first};
 ghost use Rattle.table.specs.Check.{allFinite, rising, endsFinite, knotsOf, inUnit, seamTooLong, noRoom, tableTests, seamTest, roomTests};
 
 // No test in these loops leaves early: a table that is refused is rare, and a loop that always runs to its end goes several numbers at a time.

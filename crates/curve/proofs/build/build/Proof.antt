@@ -7,16 +7,16 @@ use mathlib.Core.Path.{_≡_, refl, sym, ap, _∙_}
 use borrow.Author.Needs.{needs}
 use lib.Ieee.{Float}
 use lib.ListN.{length}
-use Rattle.record.specs.declared.refusal.Verdict.{Verdict}
-use Rattle.record.specs.declared.refusal.Verdict.the-variants as verdict
-use Rattle.record.proofs.First.{stops}
+use Rattle.refusal.specs.declared.Verdict.{Verdict}
+use Rattle.refusal.specs.declared.Verdict.the-variants as verdict
+use Rattle.refusal.proofs.First.{stops}
 use Rattle.table.specs.Check.{roomTests}
 use Rattle.table.specs.declared.ends.Frame.{Frame}
-use Rattle.shape.specs.Sections.{tailOf}
-use Rattle.shape.specs.Making.{sizeVerdict, left, nodesAfter, tagsAfter, slotsAfter}
-use Rattle.shape.specs.declared.sections.Tail.{Tail}
-use Rattle.shape.proofs.Sizes as sizes
-use Rattle.shape.proofs.Sizes.{kept, was-refused, was-made, tail-made}
+use Rattle.assembly.specs.Sections.{tailOf}
+use Rattle.assembly.specs.Making.{sizeVerdict, left, nodesAfter, tagsAfter, slotsAfter}
+use Rattle.assembly.specs.declared.sections.Tail.{Tail}
+use Rattle.assembly.proofs.Sizes as sizes
+use Rattle.assembly.proofs.Sizes.{kept, was-refused, was-made, tail-made}
 use Rattle.curve.specs.declared.curve.Built.the-variants as built
 use Rattle.curve.specs.Build.{seamedTests, buildVerdict, curveOf}
 use Rattle.curve.proofs.Accepted.{settled, refused, made}

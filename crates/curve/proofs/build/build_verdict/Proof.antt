@@ -1,7 +1,7 @@
 -- `build::build_verdict` meets its contract: 1 to 8, then the room's tests.
 use borrow.Author.Needs.{needs}
 use lib.ListN.{length}
-use Rattle.record.proofs.First.{stops, goes-on}
+use Rattle.refusal.proofs.First.{stops, goes-on}
 use Rattle.table.specs.Check.{roomTests}
 use Rattle.curve.specs.Build.{seamedTests}
 use Rattle.curve.proofs.build.build_verdict.Statement.{statement}

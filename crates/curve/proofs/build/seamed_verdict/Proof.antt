@@ -6,10 +6,10 @@ use mathlib.Core.Path.{_≡_}
 use borrow.Author.Needs.{needs}
 use lib.ListN.{length}
 use Rattle.numbers.proofs.Ways.{told}
-use Rattle.record.specs.Refusal.{first}
-use Rattle.record.specs.declared.refusal.Refusal.the-variants as refusal
-use Rattle.record.specs.declared.refusal.Verdict.the-variants as verdict
-use Rattle.record.proofs.First.{stops, goes-on}
+use Rattle.refusal.specs.Refusal.{first}
+use Rattle.refusal.specs.declared.Refusal.the-variants as refusal
+use Rattle.refusal.specs.declared.Verdict.the-variants as verdict
+use Rattle.refusal.proofs.First.{stops, goes-on}
 use Rattle.table.specs.Check.{tableTests, seamTooLong, seamTest}
 use Rattle.table.specs.declared.ends.Seam.{Seam}
 use Rattle.curve.proofs.build.seamed_verdict.Statement.{statement}

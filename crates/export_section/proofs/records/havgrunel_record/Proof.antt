@@ -4,7 +4,7 @@ use borrow.Author.Needs.{needs}
 use borrow.Author.Tests.{lt-ltb, le-ltb}
 use lib.ListN.{length}
 use Rattle.record.specs.Reader.{recordVerdict}
-use Rattle.record.specs.declared.refusal.Verdict.the-variants as verdict
+use Rattle.refusal.specs.declared.Verdict.the-variants as verdict
 use Rattle.export_section.specs.Records.{copyVerdict}
 use Rattle.export_section.proofs.Copies.{barred, unroomed, passes, copy-refused, copy-written, part-long}
 use Rattle.export_section.proofs.records.havgrunel_record.Statement.{statement}

@@ -4,7 +4,7 @@ use mathlib.Core.Path.{sym, _∙_}
 use borrow.Author.Needs.{needs}
 use borrow.Author.Tests.{lt-ltb, le-ltb}
 use lib.ListN.{length-set}
-use Rattle.reading.specs.Reading.{readSection}
+use Rattle.record.specs.Reading.{readSection}
 use Rattle.export_section.proofs.Copies.{section-illegal, section-short, section-written}
 use Rattle.export_section.proofs.records.havgrunel_section.Statement.{statement}
 use Rattle.export_section.proofs.records.havgrunel_section.Tie as tie

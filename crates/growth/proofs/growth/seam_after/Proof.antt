@@ -4,7 +4,7 @@ use native.Mathlib.Nat.{add-sub-cancel-left}
 use mathlib.Core.Path.{_≡_, sym, _∙_}
 use borrow.Author.Needs.{needs}
 use lib.ListN.{take, drop, getD}
-use Rattle.reading.specs.Reading.{readSection}
+use Rattle.record.specs.Reading.{readSection}
 use Rattle.growth.proofs.Seams.{after-none, after-section, after-illegal}
 use Rattle.growth.proofs.growth.seam_after.Statement.{statement}
 use Rattle.growth.proofs.growth.seam_after.Tie as tie

@@ -1,6 +1,6 @@
 -- `asked::query_verdict` meets its contract: the curve's tests, then the query's.
 use borrow.Author.Needs.{needs}
-use Rattle.record.proofs.First.{stops, goes-on}
+use Rattle.refusal.proofs.First.{stops, goes-on}
 use Rattle.query.specs.Query.{curveTests, pointTests}
 use Rattle.query.proofs.asked.query_verdict.Statement.{statement}
 use Rattle.query.proofs.asked.query_verdict.Tie as tie

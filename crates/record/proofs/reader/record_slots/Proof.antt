@@ -5,7 +5,7 @@ use borrow.Author.Needs.{needs}
 use Prim.Native.Nat.{ℕ, _*_}
 use native.Mathlib.Nat.{add-sub-cancel-left}
 use lib.ListN.{length, take, drop}
-use Rattle.record.specs.declared.refusal.Verdict.{Verdict}
+use Rattle.refusal.specs.declared.Verdict.{Verdict}
 use Rattle.record.specs.Reader.{recordVerdict, recordPart}
 use Rattle.record.proofs.InRange.{InRange, in-range}
 use Rattle.record.proofs.reader.record_slots.Statement.{statement}

@@ -4,9 +4,9 @@ use mathlib.Core.Path.{_≡_, ap, _∙_}
 use borrow.Author.Needs.{needs}
 use borrow.Rule.Slice.PartMut.{midOf}
 use lib.ListN.{length}
-use Rattle.record.specs.declared.refusal.Verdict.{Verdict}
-use Rattle.shape.specs.Making.{sizeVerdict, madeOf}
-use Rattle.shape.specs.Sections.{tailOf}
+use Rattle.refusal.specs.declared.Verdict.{Verdict}
+use Rattle.assembly.specs.Making.{sizeVerdict, madeOf}
+use Rattle.assembly.specs.Sections.{tailOf}
 use Rattle.sheets.specs.Sheet.{partVerdict}
 use Rattle.sheets.proofs.Parts.{part-length, put-left, same-sizes}
 use Rattle.sheets.proofs.sheet.make_from.Statement.{statement}

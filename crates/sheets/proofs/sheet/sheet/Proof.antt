@@ -5,12 +5,12 @@ use borrow.Author.Tests.{not-true, not-false}
 use borrow.Author.Needs.{needs}
 use lib.ListN.{length}
 use Rattle.numbers.proofs.Ways.{told, asked-not}
-use Rattle.record.specs.declared.refusal.Verdict.{Verdict}
-use Rattle.record.specs.declared.refusal.Verdict.the-variants as verdict
-use Rattle.record.proofs.First.{stops}
+use Rattle.refusal.specs.declared.Verdict.{Verdict}
+use Rattle.refusal.specs.declared.Verdict.the-variants as verdict
+use Rattle.refusal.proofs.First.{stops}
 use Rattle.table.specs.Check.{roomTests}
-use Rattle.shape.proofs.Sizes.{kept, same-left, was-refused, was-made, tail-made}
-use Rattle.shape.specs.declared.sections.Tail.{Tail}
+use Rattle.assembly.proofs.Sizes.{kept, same-left, was-refused, was-made, tail-made}
+use Rattle.assembly.specs.declared.sections.Tail.{Tail}
 use Rattle.sheets.specs.Sheet.{numbersTests, sheetVerdict, partVerdict, endOf}
 use Rattle.sheets.proofs.Parts.{settled, sized, enough, too-many, within, outside, refused, drawn-of}
 use Rattle.sheets.proofs.sheet.sheet.Statement.{statement}

@@ -2,7 +2,7 @@
 use Prim.Native.Nat.{_-_, _*_}
 use borrow.Author.Needs.{needs}
 use lib.ListN.{length}
-use Rattle.record.proofs.First.{stops, goes-on}
+use Rattle.refusal.proofs.First.{stops, goes-on}
 use Rattle.table.specs.Check.{roomTests}
 use Rattle.sheets.specs.Sheet.{numbersTests}
 use Rattle.sheets.proofs.sheet.sheet_verdict.Statement.{statement}

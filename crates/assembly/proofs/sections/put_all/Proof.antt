@@ -1,0 +1,35 @@
+-- `sections::put_all` meets its contract: the nodes, then every section, then the record beyond them.
+use native.Mathlib.Omega.{arith}
+use mathlib.Core.Path.{_≡_, sym, ap, _∙_}
+use borrow.Author.Needs.{needs}
+use Rattle.record.specs.Reading.{recordAt}
+use Prim.Native.Nat.{_-_}
+use lib.ListN.{length}
+use Rattle.assembly.proofs.Places.{nodes-hold}
+use Rattle.assembly.proofs.ReadBack.{record-read-back}
+use Rattle.assembly.proofs.sections.put_all.Statement.{statement}
+use Rattle.assembly.proofs.sections.put_all.Tie as tie
+
+put-sections-requires : tie.Need-put-sections-requires
+put-sections-requires c κs =
+    let s = c .before .before .before .before .before .before .before .before .before .before .before .before in
+    let a = s .args in
+    (search needs, (search needs, nodes-hold (a .xs .now) (a .ys .now) (a .frame) _ _ (c .before .before .before .before .before .fill .ensures) (omega arith)))
+
+tail-of-requires : tie.Need-tail-of-requires
+tail-of-requires c κs =
+    let s = c .before .before .before .before .before .before .before .before .before .before .before .before .before .before .before .before .before .before .before in
+    let a = s .args in
+    let p = c .before .before .before .before .before .before .put-sections .ensures in
+    (search needs, (search needs, (rw (p .1 .0, p .1 .1) (record-read-back (a .xs .now) (a .ys .now) (a .frame) (length (a .xs .now) - 2) (a .tags .now) (a .slots .now) (omega arith) (omega arith) (omega arith)), p .0)))
+
+returns : tie.Need-returns
+returns c = let p = c .before .before .before .before .before .before .before .put-sections .ensures in (c .tail-of .ensures, (c .before .before .before .before .before .before .before .before .before .before .before .before .before .fill .ensures, (p .1 .0, p .1 .1)))
+
+pub put-all-spec : {M : Type 1} → statement M
+put-all-spec =
+    tie.close
+    (tie.spec
+    (λ c κs. search needs) put-sections-requires tail-of-requires
+    (λ c. search needs) (λ c. search needs) (λ c. search needs)
+    returns)

@@ -1,0 +1,47 @@
+-- 01, Refusal numbers; Buffers and section records. What is asked of sizes, and what a lent buffer holds afterwards.
+use Prim.Native.Nat.{ℕ, _-_, _*_}
+use mathlib.Core.Bool.{not}
+use mathlib.Core.List.{List, _∷_}
+use lib.Dec.{eqb, ltb}
+use lib.Ieee.{Float}
+use lib.ListN.{length}
+use Rattle.numbers.specs.Overlay.{overlay}
+use Rattle.refusal.specs.Refusal.{Test, first, _⇒_}
+use Rattle.numbers.specs.Sizes.{slotCount}
+use Rattle.refusal.specs.declared.Refusal.the-variants.{LengthsDiffer, TooFewPoints}
+use Rattle.refusal.specs.declared.Verdict.{Verdict}
+use Rattle.refusal.specs.declared.Verdict.the-variants as verdict
+use Rattle.table.specs.Check.{roomTests}
+use Rattle.table.specs.Table.{nodeAt}
+use Rattle.table.specs.declared.ends.Frame.{Frame}
+use Rattle.assembly.specs.Sections.{tagAt, slotAt}
+use Rattle.assembly.specs.declared.sections.Tail.{Tail}
+use Rattle.assembly.specs.declared.making.Made.{Made}
+use Rattle.assembly.specs.declared.making.Made.the-variants as made
+
+-- 1, 4, 10 and 11, for so many knots and averages and lent buffers of these lengths
+abbrev pub sizeTests : ℕ → ℕ → ℕ → ℕ → ℕ → List Test
+sizeTests n m nodes tags slots = (not (eqb n m) ⇒ LengthsDiffer) ∷ (ltb n 2 ⇒ TooFewPoints) ∷ roomTests n nodes tags slots
+
+abbrev pub sizeVerdict : List Float → List Float → List Float → List ℕ → List Float → Verdict
+sizeVerdict x y nodes tags slots = first (sizeTests (length x) (length y) (length nodes) (length tags) (length slots))
+
+abbrev pub madeOf : Verdict → Tail → Made
+madeOf verdict.Accepted t = made.Tail t
+madeOf (verdict.Refused r) t = made.Refused r
+
+-- what a lent buffer holds: as it was, unless the table was accepted
+abbrev pub left : {A : Type 0} → Verdict → List A → List A → List A
+left verdict.Accepted new old = new
+left (verdict.Refused r) new old = old
+
+-- the buffers with the nodes and records of a table of n points from place p on: n nodes, n - 1 tags, 24 slots to each of these
+module _ (p : ℕ) (x y : List Float) (frame : Frame) where
+  abbrev pub nodesAfter : List Float → List Float
+  nodesAfter old = overlay p (length x) (nodeAt x y frame) old
+
+  abbrev pub tagsAfter : List ℕ → List ℕ
+  tagsAfter old = overlay p (length x - 1) (tagAt x y frame) old
+
+  abbrev pub slotsAfter : List Float → List Float
+  slotsAfter old = overlay (slotCount * p) (slotCount * (length x - 1)) (slotAt x y frame) old

@@ -1,6 +1,0 @@
-pub mod Cuts
-pub mod Enough
-pub mod Growths
-pub mod Tables
-pub mod Told
-pub mod Unique

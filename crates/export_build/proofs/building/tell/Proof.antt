@@ -1,0 +1,18 @@
+-- `building::tell` meets its contract: a refusal goes through, and a curve's four numbers are written.
+use native.Mathlib.Omega.{arith}
+use borrow.Author.Needs.{needs}
+use lib.ListN.{length-set}
+use Rattle.export_build.proofs.Told.{curve-refused, curve-written}
+use Rattle.export_build.proofs.building.tell.Statement.{statement}
+use Rattle.export_build.proofs.building.tell.Tie as tie
+
+pub tell-spec : {M : Type 1} → statement M
+tell-spec =
+    tie.close
+    (tie.spec
+    (λ c. search needs) (λ c κs. search needs) (λ c. search needs) (λ c. search needs) (λ c. search needs)
+    (λ c. simp length-set (omega arith))
+    (λ c. search needs)
+    (λ c. curve-refused _ _ _ _ _ (c .before .before .built .given .1) (c .number .ensures))
+    (λ c. search needs) (λ c. search needs)
+    (λ c. curve-written _ _ _ _ (c .before .before .built2 .given .1)))

@@ -1,0 +1,4 @@
+pub mod Building
+pub mod Cutting
+pub mod Growing
+pub mod Drawing

@@ -1,0 +1,114 @@
+// A part of a table built into its place in the whole's buffers.
+use crate::building::last_refusal;
+use sheets::sheet::Drawn;
+use sheets::sheet::sheet;
+use sheets::sheet::sheet_verdict;
+use table::ends::End;
+use table::method::ConvexMonotone;
+ghost use mathlib.Core.Path.{_≡_};
+ghost use Prim.Native.Nat.{_≤_};
+ghost use lib.ListN.{length};
+ghost use Rattle.table.specs.Table.{inner};
+ghost use Rattle.sheets.specs.Sheet.{toldSheet};
+ghost use Rattle.export_build.specs.Drawing.{endOf, endLeft, sheetRefusal, nodesDrawn, tagsDrawn, slotsDrawn, answerDrawn};
+
+// The node at an inner knot, from its neighbours and the averages of the periods that end at it and at the knot after it: what the sheets on both
+// sides of a cut are given.
+#[no_mangle]
+pub extern "C" fn havgrunel_inner_node(
+    before: f64,
+    here: f64,
+    after: f64,
+    average: f64,
+    next: f64,
+) -> f64
+    ensures { λ r. ⌜ r ≡ inner before here after average next ⌝ }
+{
+    assembly::nodes::inner(before, here, after, average, next)
+}
+
+// An end across the boundary: whether its node is given, and the node.
+fn end_of(given: bool, node: f64) -> End
+    ensures { λ r. ⌜ r ≡ endOf given node ⌝ }
+{
+    if given {
+        return End::Given(node);
+    }
+    End::Free
+}
+
+// A sheet in numbers: the total after it and the record beyond its last knot, written where there is room for them.
+fn tell_end(drawn: Drawn, answer: &mut [f64]) -> u8
+    requires { ⌜ 4 ≤ length (now answer) ⌝ }
+    ensures refusal { λ r. ⌜ r ≡ toldSheet drawn .refusal ⌝ }
+    ensures answer { λ _. ⌜ now (answer .exit) ≡ endLeft drawn (now (answer .entry)) ⌝ }
+{
+    match drawn {
+        Drawn::Refused(refusal) => refusal.number(),
+        Drawn::Sheet(end) => {
+            let record = end.tail;
+            answer[0] = end.total;
+            answer[1] = record.value;
+            answer[2] = record.total;
+            answer[3] = record.from;
+            0
+        }
+    }
+}
+
+// Builds a part of a table into the whole's buffers, from `place` on. A node that is given stands for the one at its end, and the totals go on from
+// `start`. Into `answer` go the total after the sheet and the record beyond its last knot (value, total, from): three +0.0 where a right node is given.
+#[no_mangle]
+pub extern "C" fn havgrunel_sheet(
+    knots: &[f64],
+    averages: &[f64],
+    quadraticity: f64,
+    monotonicity: f64,
+    positive: bool,
+    left_given: bool,
+    left_node: f64,
+    right_given: bool,
+    right_node: f64,
+    start: f64,
+    place: usize,
+    nodes: &mut [f64],
+    tags: &mut [u16],
+    slots: &mut [f64],
+    answer: &mut [f64],
+) -> u8
+    ensures refusal { λ r. ⌜ r ≡ sheetRefusal (now (knots .entry)) (now (averages .entry)) quadraticity monotonicity positive «left_given» «left_node» «right_given» «right_node» start place (now (nodes .entry)) (now (tags .entry)) (now (slots .entry)) (now (answer .entry)) ⌝ }
+    ensures nodes { λ _. ⌜ now (nodes .exit) ≡ nodesDrawn (now (knots .entry)) (now (averages .entry)) quadraticity monotonicity positive «left_given» «left_node» «right_given» «right_node» start place (now (nodes .entry)) (now (tags .entry)) (now (slots .entry)) (now (answer .entry)) ⌝ }
+    ensures tags { λ _. ⌜ now (tags .exit) ≡ tagsDrawn (now (knots .entry)) (now (averages .entry)) quadraticity monotonicity positive «left_given» «left_node» «right_given» «right_node» start place (now (nodes .entry)) (now (tags .entry)) (now (slots .entry)) (now (answer .entry)) ⌝ }
+    ensures slots { λ _. ⌜ now (slots .exit) ≡ slotsDrawn (now (knots .entry)) (now (averages .entry)) quadraticity monotonicity positive «left_given» «left_node» «right_given» «right_node» start place (now (nodes .entry)) (now (tags .entry)) (now (slots .entry)) (now (answer .entry)) ⌝ }
+    ensures answer { λ _. ⌜ now (answer .exit) ≡ answerDrawn (now (knots .entry)) (now (averages .entry)) quadraticity monotonicity positive «left_given» «left_node» «right_given» «right_node» start place (now (nodes .entry)) (now (tags .entry)) (now (slots .entry)) (now (answer .entry)) ⌝ }
+{
+    let method = ConvexMonotone::new(quadraticity, monotonicity, positive);
+    let left = end_of(left_given, left_node);
+    let right = end_of(right_given, right_node);
+    if answer.len() < 4 {
+        return last_refusal(sheet_verdict(
+            knots,
+            averages,
+            method,
+            left,
+            right,
+            place,
+            nodes.len(),
+            tags.len(),
+            slots.len(),
+        ));
+    }
+    let drawn = sheet(
+        knots,
+        averages,
+        method,
+        left,
+        right,
+        start,
+        place,
+        nodes,
+        tags,
+        slots,
+    );
+    tell_end(drawn, answer)
+}

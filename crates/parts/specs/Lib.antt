@@ -1,2 +1,0 @@
-pub mod QuadraticPart
-pub mod ConvexPart

@@ -1,9 +1,0 @@
-pub mod Alike
-pub mod Strokes
-pub mod Cuts
-pub mod Together
-pub mod SameCurve
-pub mod Drawing
-pub mod Called
-pub mod Figures
-pub mod Unique

@@ -1,2 +1,0 @@
-pub mod Many
-pub mod Number

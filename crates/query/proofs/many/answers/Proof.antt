@@ -1,0 +1,36 @@
+-- `many::answers` meets its contract: what is refused changes nothing, and what is accepted is filled in.
+use mathlib.Core.Path.{refl, sym, _∙_}
+use borrow.Author.Needs.{needs}
+use lib.ListN.{length}
+use Rattle.assembly.proofs.Sizes.{kept, written}
+use Rattle.query.specs.Many.{queriesVerdict, manyVerdict}
+use Rattle.query.proofs.Room.{ready}
+use Rattle.query.proofs.many.answers.Statement.{statement}
+use Rattle.query.proofs.many.answers.Tie as tie
+
+fill-requires : tie.Need-fill-requires
+fill-requires c κs =
+    let a = c .before .before .before .before .before .before .before .before .before .args in
+    let r = ready (a .xs .now) (length (a .tags .now)) (length (a .slots .now)) (length (a .qs .now)) (length (a .out .now))
+    (queriesVerdict (a .xs .now) (a .curve) (a .tags .now) (a .slots .now) (a .qs .now)) (sym (c .before .before .before .many-verdict .ensures) ∙ c .before .enum-told2 .given .1) in
+    (r .of-curve, (r .of-queries, r .room-enough))
+
+returns : tie.Need-returns
+returns c =
+    let a = c .before .before .before .before .before .before .before .before .args in
+    (c .before .before .many-verdict .ensures, kept (manyVerdict (a .xs .now) (a .curve) (a .tags .now) (a .slots .now) (a .qs .now) (length (a .out .now))) _ _ _ (sym (c .before .before .many-verdict .ensures) ∙ c .enum-told .given .1))
+
+returns-2 : tie.Need-returns-2
+returns-2 c =
+    let a = c .before .before .before .before .before .before .before .before .before .before .before .before .args in
+    (c .before .before .before .before .before .before .many-verdict .ensures, written (manyVerdict (a .xs .now) (a .curve) (a .tags .now) (a .slots .now) (a .qs .now) (length (a .out .now))) _ _ _ (sym (c .before .before .before .before .before .before .many-verdict .ensures) ∙ c .before .before .before .before .enum-told2 .given .1) (c .before .before .fill .ensures))
+
+pub answers-spec : {M : Type 1} → statement M
+answers-spec =
+    tie.close
+    (tie.spec
+    (λ c κs. search needs) (λ c. search needs) (λ c. search needs)
+    fill-requires
+    returns
+    (λ c. search needs)
+    returns-2)

@@ -1,0 +1,50 @@
+-- Many queries of one curve. Each gets the number that it gets by itself, and the first that is refused refuses all.
+use Prim.Native.Nat.{ℕ, zero, suc, _+_, _-_}
+use mathlib.Core.Bool.{Bool, true, false, not, _&&_, _||_}
+use mathlib.Core.List.{List, [], _∷_, _++_}
+use lib.Dec.{eqb, ltb, leb}
+use lib.Ieee.{Float, lt}
+use lib.ListN.{length}
+use Rattle.numbers.specs.Overlay.{overlay}
+use Rattle.section.specs.declared.section.Section.{Section}
+use Rattle.refusal.specs.Refusal.{Test, _⇒_, first, andThen}
+use Rattle.refusal.specs.declared.Refusal.the-variants.{BufferTooShort}
+use Rattle.refusal.specs.declared.Verdict.{Verdict}
+use Rattle.refusal.specs.declared.Verdict.the-variants as verdict
+use Rattle.table.specs.Table.{at}
+use Rattle.curve.specs.declared.curve.Curve.{Curve}
+use Rattle.query.specs.Query.{curveTests, coveredAt, ask, toldNumber}
+use Rattle.query.specs.declared.asked.Covered.{Covered}
+use Rattle.query.specs.declared.asked.Covered.the-variants as covered
+
+abbrev pub verdictOf : Covered → Verdict
+verdictOf (covered.Section s) = verdict.Accepted
+verdictOf (covered.Refused r) = verdict.Refused r
+
+-- of n verdicts, in their order
+unfoldable pub firstRefused : ℕ → (ℕ → Verdict) → Verdict
+firstRefused zero f = verdict.Accepted
+firstRefused (suc n) f = andThen (firstRefused n f) (f n)
+
+-- 4, 5, 7, 10, 11, and 11 again for the answers
+abbrev pub manyTests : List Float → ℕ → ℕ → ℕ → ℕ → List Test
+manyTests x tags slots queries room = curveTests x tags slots ++ (ltb room queries ⇒ BufferTooShort) ∷ []
+
+-- then 12, 13, 15 of each query
+abbrev pub queriesVerdict : List Float → Curve → List ℕ → List Float → List Float → Verdict
+queriesVerdict x curve tags slots qs = firstRefused (length qs) (λ i. verdictOf (coveredAt x curve tags slots (at qs i)))
+
+abbrev pub manyVerdict : List Float → Curve → List ℕ → List Float → List Float → ℕ → Verdict
+manyVerdict x curve tags slots qs room =
+    andThen (first (manyTests x (length tags) (length slots) (length qs) room)) (queriesVerdict x curve tags slots qs)
+
+-- the number that one query is told
+abbrev pub answerAt : (Section → Float → Float) → List Float → Curve → List ℕ → List Float → Float → Float
+answerAt f x curve tags slots q = toldNumber (ask (λ s. f s q) (coveredAt x curve tags slots q)) .answer
+
+abbrev pub answersAfter : (Section → Float → Float) → List Float → Curve → List ℕ → List Float → List Float → List Float → List Float
+answersAfter f x curve tags slots qs out = overlay 0 (length qs) (λ i. answerAt f x curve tags slots (at qs i)) out
+
+-- whether a query lies in section i: not below its first knot, and below its last, as far as these are inner knots
+abbrev pub covers : List Float → Float → ℕ → Bool
+covers x q i = (eqb i 0 || not (lt q (at x i))) && (leb (length x - 2) i || lt q (at x (i + 1)))

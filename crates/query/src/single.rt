@@ -1,0 +1,65 @@
+// The price, or the running total, at one point of a curve. Knots that passed the tests rise, so the place is searched for and not walked to.
+use crate::asked::Asked;
+use crate::asked::query_verdict;
+use crate::number::Wanted;
+use crate::number::record_number;
+use crate::number::tail_number;
+use crate::place::search;
+use curve::curve::Curve;
+use record::number::Answer;
+use refusal::Refusal;
+use refusal::Verdict;
+ghost use mathlib.Core.Path.{_≡_};
+ghost use lib.ListN.{length};
+ghost use Rattle.section.specs.Section.{value, primitive};
+ghost use Rattle.refusal.specs.Refusal.{first};
+ghost use Rattle.refusal.specs.declared.Verdict.the-variants.{Accepted};
+ghost use Rattle.record.specs.Number.{answerIn};
+ghost use Rattle.query.specs.Query.{curveTests, covering, coveredAt, ask};
+ghost use Rattle.query.specs.Number.{figure};
+
+// What the section that covers a query answers. From the last knot on no record is read.
+fn covering_number(
+    wanted: Wanted,
+    xs: &[f64],
+    curve: Curve,
+    tags: &[u16],
+    slots: &[f64],
+    q: f64,
+) -> Answer
+    requires { ⌜ (first (curveTests (now xs) (length (now tags)) (length (now slots))) ≡ Accepted) ⌝ }
+    ensures { λ r. ⌜ r ≡ answerIn (λ s. figure wanted s q) (covering (now (xs .entry)) curve (now (tags .entry)) (now (slots .entry)) q) ⌝ }
+{
+    let end = xs.len() - 1;
+    if xs[end] <= q {
+        return Answer::Number(tail_number(curve, wanted, q));
+    }
+    record_number(wanted, tags, slots, search(xs, q), q)
+}
+
+// What is wanted at q, or the first refusal.
+fn asked(wanted: Wanted, xs: &[f64], curve: Curve, tags: &[u16], slots: &[f64], q: f64) -> Asked
+    ensures { λ r. ⌜ r ≡ ask (λ s. figure wanted s q) (coveredAt (now (xs .entry)) curve (now (tags .entry)) (now (slots .entry)) q) ⌝ }
+{
+    match query_verdict(xs, curve, tags.len(), slots.len(), q) {
+        Verdict::Refused(refusal) => Asked::Refused(refusal),
+        Verdict::Accepted => match covering_number(wanted, xs, curve, tags, slots, q) {
+            Answer::Number(number) => Asked::Number(number),
+            Answer::Illegal => Asked::Refused(Refusal::RecordNotLegal),
+        },
+    }
+}
+
+// The price at q.
+pub fn value(xs: &[f64], curve: Curve, tags: &[u16], slots: &[f64], q: f64) -> Asked
+    ensures { λ r. ⌜ r ≡ ask (λ s. value s q) (coveredAt (now (xs .entry)) curve (now (tags .entry)) (now (slots .entry)) q) ⌝ }
+{
+    asked(Wanted::Price, xs, curve, tags, slots, q)
+}
+
+// The total of all prices up to q.
+pub fn primitive(xs: &[f64], curve: Curve, tags: &[u16], slots: &[f64], q: f64) -> Asked
+    ensures { λ r. ⌜ r ≡ ask (λ s. primitive s q) (coveredAt (now (xs .entry)) curve (now (tags .entry)) (now (slots .entry)) q) ⌝ }
+{
+    asked(Wanted::Total, xs, curve, tags, slots, q)
+}

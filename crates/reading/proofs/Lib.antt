@@ -1,4 +1,0 @@
-pub mod RoundTrip
-pub mod Legal
-pub mod Unique
-pub mod Numbers

@@ -1,3 +1,0 @@
-pub mod Legal
-pub mod Reading
-pub mod Number

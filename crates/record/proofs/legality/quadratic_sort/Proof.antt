@@ -1,0 +1,14 @@
+-- `quadratic_sort` meets its contract.
+use borrow.Author.Tests.{ne-eqb}
+use Rattle.record.proofs.legality.quadratic_sort.Statement.{statement}
+use Rattle.record.proofs.legality.quadratic_sort.Tie as tie
+
+pub quadratic-sort-spec : {M : Type 1} → statement M
+quadratic-sort-spec =
+    tie.close
+    (tie.spec
+    (λ c. rw (c .match .keys1))
+    (λ c. rw (c .match .keys2))
+    (λ c. rw (c .match .keys3))
+    (λ c. rw (c .match .keys4))
+    (λ c. let r = c .match .rest in simp (ne-eqb _ _ (r .0 .0 .0 .1), ne-eqb _ _ (r .0 .0 .1), ne-eqb _ _ (r .0 .1), ne-eqb _ _ (r .1))))

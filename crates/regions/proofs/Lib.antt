@@ -1,3 +1,0 @@
-pub mod Signs
-pub mod Ways
-pub mod Unique

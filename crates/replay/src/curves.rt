@@ -1,0 +1,136 @@
+// The lines that tell a curve: `b`, a `t` to each section, `e` and `n`, and then `a` for what it answers.
+use crate::kept;
+use crate::kept::Kept;
+use crate::kept::Outcome;
+use crate::kept::TAGS;
+use crate::points;
+use crate::records;
+use crate::words::MOST;
+use curve::curve::Curve;
+use numbers::SLOTS;
+use query::asked::Asked;
+
+// A line `b REFUSAL SECTIONS`: whether the build or growth went as it tells.
+pub(crate) fn went(outcome: Outcome, words: &[u64; MOST]) -> bool {
+    match outcome {
+        Outcome::Nothing => false,
+        Outcome::Refused(number) => {
+            if number != words[0] {
+                return false;
+            }
+            words[1] == 0
+        }
+        Outcome::Curve(made) => {
+            if words[0] != 0 {
+                return false;
+            }
+            made.sections as u64 == words[1]
+        }
+    }
+}
+
+fn record_at(tags: &[u16], slots: &[f64], at: usize, words: &[u64; MOST]) -> bool {
+    if TAGS <= at {
+        return false;
+    }
+    if tags.len() <= at {
+        return false;
+    }
+    let from = SLOTS * at;
+    let end = from + SLOTS;
+    if slots.len() < end {
+        return false;
+    }
+    records::agrees(tags[at], &slots[from..end], words)
+}
+
+// A line `t TAG SLOT0 .. SLOT23 FNEXT`: whether the record at a place is as it tells.
+pub(crate) fn record_agrees(kept: Kept, at: usize, words: &[u64; MOST]) -> bool {
+    let tags = kept.tags;
+    let slots = kept.slots;
+    record_at(&tags, &slots, at, words)
+}
+
+// A line `e VALUE TOTAL FROM`: whether the record beyond the last knot is as it tells.
+pub(crate) fn tail_agrees(made: Curve, words: &[u64; MOST]) -> bool {
+    let tail = made.tail;
+    if numbers::to_bits(tail.value) != words[0] {
+        return false;
+    }
+    if numbers::to_bits(tail.total) != words[1] {
+        return false;
+    }
+    numbers::to_bits(tail.from) == words[2]
+}
+
+fn same_nodes(nodes: &[f64], words: &[u64; MOST], count: usize) -> bool {
+    if nodes.len() < count {
+        return false;
+    }
+    if MOST < count {
+        return false;
+    }
+    let mut i = 0;
+    while i < count {
+        if numbers::to_bits(nodes[i]) != words[i] {
+            return false;
+        }
+        i += 1;
+    }
+    true
+}
+
+// A line `n NODE ..`: whether the nodes are as it tells. It has one to each knot.
+pub(crate) fn nodes_agree(kept: Kept, words: &[u64; MOST]) -> bool {
+    let nodes = kept.nodes;
+    same_nodes(&nodes, words, kept.knots)
+}
+
+// A refusal is told with zeros.
+fn same(asked: Asked, refusal: u64, number: u64) -> bool {
+    match asked {
+        Asked::Number(y) => {
+            if refusal != 0 {
+                return false;
+            }
+            numbers::to_bits(y) == number
+        }
+        Asked::Refused(r) => {
+            if kept::wide(r.number()) != refusal {
+                return false;
+            }
+            number == 0
+        }
+    }
+}
+
+fn both(xs: &[f64], made: Curve, tags: &[u16], slots: &[f64], words: &[u64; MOST]) -> bool {
+    let q = numbers::of_bits(words[1]);
+    if !same(
+        query::single::value(xs, made, tags, slots, q),
+        words[2],
+        words[3],
+    ) {
+        return false;
+    }
+    same(
+        query::single::primitive(xs, made, tags, slots, q),
+        words[2],
+        words[4],
+    )
+}
+
+// A line `a ALLOW X REFUSAL VALUE PRIMITIVE`: whether the curve answers as it tells. It is asked with its own knots and not the room behind them.
+pub(crate) fn answers(kept: Kept, made: Curve, words: &[u64; MOST]) -> bool {
+    let xs = kept.xs;
+    let tags = kept.tags;
+    let slots = kept.slots;
+    let allowed = made.with_extrapolation(words[0] == 1);
+    both(
+        points::first(&xs, kept.knots),
+        allowed,
+        &tags,
+        &slots,
+        words,
+    )
+}

@@ -1,0 +1,63 @@
+// A line `t TAG SLOT0 .. SLOT23 FNEXT`: a section's record, and the node it ends on.
+use crate::words::MOST;
+use numbers::SLOTS;
+use record::reading::Found;
+use section::section::Section;
+
+// A section as its record alone: what is asked of it is asked of the section that is read back.
+pub(crate) struct Record {
+    pub tag: u16,
+    pub slots: [f64; SLOTS],
+}
+
+// The record of no section: 0 is no section's tag.
+pub(crate) fn none() -> Record {
+    Record {
+        tag: 0,
+        slots: [0.0; SLOTS],
+    }
+}
+
+pub(crate) fn of_section(section: Section) -> Record {
+    let tag = record::tag::tag_of(section);
+    let slots = record::slots::slots_of(section);
+    Record { tag, slots }
+}
+
+fn wide(x: u16) -> u64 {
+    x as u64
+}
+
+// Whether the slots are those that the line has behind its tag.
+fn same_slots(slots: &[f64], words: &[u64; MOST]) -> bool {
+    if slots.len() < SLOTS {
+        return false;
+    }
+    let mut i = 0;
+    while i < SLOTS {
+        if numbers::to_bits(slots[i]) != words[i + 1] {
+            return false;
+        }
+        i += 1;
+    }
+    true
+}
+
+// The node that a record's section ends on, where it is legal.
+fn ends_on(tag: u16, slots: &[f64], node: u64) -> bool {
+    match record::reading::read_section(tag, slots) {
+        Found::Illegal => false,
+        Found::Section(section) => numbers::to_bits(section.f_next()) == node,
+    }
+}
+
+// Whether a record is as the line tells. One that cannot be read back is not, whatever else it agrees in.
+pub(crate) fn agrees(tag: u16, slots: &[f64], words: &[u64; MOST]) -> bool {
+    if wide(tag) != words[0] {
+        return false;
+    }
+    if !same_slots(slots, words) {
+        return false;
+    }
+    ends_on(tag, slots, words[25])
+}
