@@ -1,4 +1,4 @@
-// What a query is refused for, and what it is answered. Prices and totals themselves are asked of `queries`.
+// What a query is refused for, and what it is answered. `single` and `many` answer it.
 use assembly::sections::Tail;
 use curve::curve::Curve;
 use numbers::SLOTS;
