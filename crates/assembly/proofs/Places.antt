@@ -11,17 +11,17 @@ use lib.Ieee.{Float, nan}
 use lib.ListN.{length, set}
 use lib.Seq.{getD-set-other}
 use Rattle.numbers.specs.Overlay.{overlay}
-use Rattle.numbers.specs.Words.{nought}
+use Rattle.numbers.specs.Words.{zero}
 use Rattle.numbers.proofs.Overlay.{overlay-none, overlay-more, overlay-join, overlay-inside, overlay-comm}
 use Rattle.table.specs.declared.ends.End.{End}
 use Rattle.table.specs.declared.ends.Frame.{Frame}
 use Rattle.table.specs.Table.{at, outer, orGiven, middleAt, second, secondLast, firstNode, lastNode, nodeAt}
-use Rattle.assembly.specs.Nodes.{beside, firstFrom, lastFrom}
+use Rattle.assembly.specs.Steps.{beside, firstFrom, lastFrom}
 
 beside-same : (n : ℕ) (other : End) (f g : Float) → ((n ≡ 2 → ⊥) → f ≡ g) → beside n other f ≡ beside n other g
 beside-same n other f g h = by (eqb n 2) (eqb-false n 2)
   where
-    by : (t : Bool) → (t ≡ false → n ≡ 2 → ⊥) → cond t (orGiven other nought) f ≡ cond t (orGiven other nought) g
+    by : (t : Bool) → (t ≡ false → n ≡ 2 → ⊥) → cond t (orGiven other zero) f ≡ cond t (orGiven other zero) g
     by true k = refl
     by false k = h (k refl)
 

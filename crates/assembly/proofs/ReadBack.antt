@@ -7,6 +7,7 @@ use mathlib.Core.Path.{_≡_, refl, sym, ap, _∙_}
 use lib.Ieee.{Float, nan}
 use lib.ListN.{length, take, drop, getD, length-drop}
 use lib.Seq.{length-take-le, getD-take, getD-drop, ext-getD}
+use Rattle.numbers.specs.Sizes.{fieldCount, slotCount}
 use Rattle.numbers.proofs.Overlay.{overlay-inside, length-overlay}
 use Rattle.section.specs.declared.quadratic_part.QuadraticPart.{QuadraticPart}
 use Rattle.section.specs.declared.quadratic_part.QuadraticPart.the-variants as quadratic
@@ -14,7 +15,7 @@ use Rattle.section.specs.declared.convex_monotone_part.ConvexMonotonePart.{Conv
 use Rattle.section.specs.declared.convex_monotone_part.ConvexMonotonePart.the-variants as convex
 use Rattle.section.specs.declared.section.Section.{Section}
 use Rattle.section.specs.declared.section.Section.the-variants as kind
-use Rattle.numbers.specs.Sizes.{slotCount}
+use Rattle.numbers.specs.Sizes.{fieldCount, slotCount}
 use Rattle.record.specs.Slots.{slotsOf, quadraticSlots, convexSlots, layout}
 use Rattle.record.specs.Tag.{tagOf}
 use Rattle.record.specs.Reading.{readSection, recordAt}
@@ -25,8 +26,8 @@ use Rattle.assembly.specs.Making.{tagsAfter, slotsAfter}
 use Rattle.assembly.specs.Sections.{sectionAt, tagAt, slotAt}
 use Rattle.assembly.proofs.Rows.{slot-here}
 
--- a weight, a quadratic part and another part fill 24 slots
-parts-length : (w : Float) (p : QuadraticPart) (c : ConvexMonotonePart) → length (layout w (quadraticSlots p) (convexSlots c)) ≡ 24
+-- a weight, a quadratic part and another part fill its fields
+parts-length : (w : Float) (p : QuadraticPart) (c : ConvexMonotonePart) → length (layout w (quadraticSlots p) (convexSlots c)) ≡ fieldCount
 unfolding quadraticSlots convexSlots
 parts-length w (quadratic.Quadratic p) (convex.ConvexMonotone2 c) = refl
 parts-length w (quadratic.Quadratic p) (convex.ConvexMonotone3 c) = refl
@@ -37,8 +38,8 @@ parts-length w (quadratic.QuadraticMin p) (convex.ConvexMonotone3 c) = refl
 parts-length w (quadratic.QuadraticMin p) (convex.ConvexMonotone4 c) = refl
 parts-length w (quadratic.QuadraticMin p) (convex.ConvexMonotone4Min c) = refl
 
--- every record has 24 slots
-pub slots-length : (s : Section) → length (slotsOf s) ≡ 24
+-- every section has so many fields
+pub slots-length : (s : Section) → length (slotsOf s) ≡ fieldCount
 unfolding slotsOf quadraticSlots convexSlots
 slots-length (kind.EverywhereConstant s) = refl
 slots-length (kind.ConstantGrad s) = refl
@@ -69,18 +70,18 @@ module _ (x y : List Float) (frame : Frame) where
       ∙ overlay-inside 0 (length x - 1) (tagAt x y frame) tags i 0 l (omega arith)
 
   -- the slots that are written for it
-  pub slots-read-back : (i : ℕ) (slots : List Float) → i < length x - 1 → 24 * (length x - 1) ≤ length slots →
+  pub slots-read-back : (i : ℕ) (slots : List Float) → i < length x - 1 → slotCount * (length x - 1) ≤ length slots →
       take slotCount (drop (slotCount * i) (slotsAfter 0 x y frame slots)) ≡ slotsOf (sectionAt x y frame i)
   slots-read-back i slots l h =
-      let same : length (slotsAfter 0 x y frame slots) ≡ length slots = length-overlay 0 (24 * (length x - 1)) (slotAt x y frame) slots in
-      part-is (slotsAfter 0 x y frame slots) (slotsOf (sectionAt x y frame i)) (24 * i) 24 (slots-length (sectionAt x y frame i)) (omega arith)
-      (λ (k : ℕ) (m : k < 24).
-      ap (λ (j : ℕ). getD (slotsAfter 0 x y frame slots) j nan) (sym (zero-add (24 * i + k)))
-      ∙ overlay-inside 0 (24 * (length x - 1)) (slotAt x y frame) slots (24 * i + k) nan (omega arith) (omega arith)
+      let same : length (slotsAfter 0 x y frame slots) ≡ length slots = length-overlay 0 (slotCount * (length x - 1)) (slotAt x y frame) slots in
+      part-is (slotsAfter 0 x y frame slots) (slotsOf (sectionAt x y frame i)) (slotCount * i) slotCount (slots-length (sectionAt x y frame i)) (omega arith)
+      (λ (k : ℕ) (m : k < slotCount).
+      ap (λ (j : ℕ). getD (slotsAfter 0 x y frame slots) j nan) (sym (zero-add (slotCount * i + k)))
+      ∙ overlay-inside 0 (slotCount * (length x - 1)) (slotAt x y frame) slots (slotCount * i + k) nan (omega arith) (omega arith)
       ∙ slot-here x y frame i k m)
 
   -- each record of a built curve is read back as the section it was written from
-  pub record-read-back : (i : ℕ) (tags : List ℕ) (slots : List Float) → i < length x - 1 → length x - 1 ≤ length tags → 24 * (length x - 1) ≤ length slots →
+  pub record-read-back : (i : ℕ) (tags : List ℕ) (slots : List Float) → i < length x - 1 → length x - 1 ≤ length tags → slotCount * (length x - 1) ≤ length slots →
       recordAt (tagsAfter 0 x y frame tags) (slotsAfter 0 x y frame slots) i ≡ found.Section (sectionAt x y frame i)
   record-read-back i tags slots l h g =
       ap (λ (t : ℕ). readSection t (take slotCount (drop (slotCount * i) (slotsAfter 0 x y frame slots)))) (tag-read-back i tags l h)

@@ -9,6 +9,7 @@ use mathlib.Core.Path.{_≡_, refl, sym, ap, _∙_}
 use lib.Dec.{eqb}
 use lib.Ieee.{Float, nan}
 use lib.ListN.{length, getD, set}
+use Rattle.numbers.specs.Sizes.{slotCount}
 use Rattle.numbers.specs.Words.{_⊕_, _⊖_, _⊗_}
 use Rattle.numbers.specs.Overlay.{overlay}
 use Rattle.numbers.proofs.Overlay.{overlay-more, overlay-same, overlay-join}
@@ -25,25 +26,25 @@ module _ (x y : List Float) (frame : Frame) where
   tag-more i s old tags e f = overlay-more 0 i (tagAt x y frame) old tags i (tagOf s) e (sym (zero-add i)) (ap tagOf f)
 
   -- slot k of record i
-  pub slot-here : (i k : ℕ) → k < 24 → slotAt x y frame (24 * i + k) ≡ getD (slotsOf (sectionAt x y frame i)) k nan
+  pub slot-here : (i k : ℕ) → k < slotCount → slotAt x y frame (slotCount * i + k) ≡ getD (slotsOf (sectionAt x y frame i)) k nan
   slot-here i k l =
-      let d : (24 * i + k) / 24 ≡ i = omega arith in
-      let m : (24 * i + k) % 24 ≡ k = omega arith in
-      ap (λ (j : ℕ). getD (slotsOf (sectionAt x y frame j)) ((24 * i + k) % 24) nan) d ∙ ap (λ (j : ℕ). getD (slotsOf (sectionAt x y frame i)) j nan) m
+      let d : (slotCount * i + k) / slotCount ≡ i = omega arith in
+      let m : (slotCount * i + k) % slotCount ≡ k = omega arith in
+      ap (λ (j : ℕ). getD (slotsOf (sectionAt x y frame j)) ((slotCount * i + k) % slotCount) nan) d ∙ ap (λ (j : ℕ). getD (slotsOf (sectionAt x y frame i)) j nan) m
 
-  slot-same : (i : ℕ) (s : Section) → s ≡ sectionAt x y frame i → (k : ℕ) → k < 24 → getD (slotsOf s) k nan ≡ slotAt x y frame (24 * i + k)
+  slot-same : (i : ℕ) (s : Section) → s ≡ sectionAt x y frame i → (k : ℕ) → k < slotCount → getD (slotsOf s) k nan ≡ slotAt x y frame (slotCount * i + k)
   slot-same i s f k l = ap (λ (t : Section). getD (slotsOf t) k nan) f ∙ sym (slot-here i k l)
 
-  pub slots-more : (i : ℕ) (s : Section) (old slots out : List Float) → slots ≡ overlay 0 (24 * i) (slotAt x y frame) old →
-      out ≡ overlay (24 * i) 24 (λ k. getD (slotsOf s) k nan) slots → s ≡ sectionAt x y frame i →
-      out ≡ overlay 0 (24 * (i + 1)) (slotAt x y frame) old
+  pub slots-more : (i : ℕ) (s : Section) (old slots out : List Float) → slots ≡ overlay 0 (slotCount * i) (slotAt x y frame) old →
+      out ≡ overlay (slotCount * i) slotCount (λ k. getD (slotsOf s) k nan) slots → s ≡ sectionAt x y frame i →
+      out ≡ overlay 0 (slotCount * (i + 1)) (slotAt x y frame) old
   slots-more i s old slots out e g f =
-      let w : 24 * i + 24 ≡ 24 * (i + 1) = omega arith in
+      let w : slotCount * i + slotCount ≡ slotCount * (i + 1) = omega arith in
       g
-      ∙ overlay-same (24 * i) 24 (λ k. getD (slotsOf s) k nan) (λ k. slotAt x y frame (24 * i + k)) slots (slot-same i s f)
-      ∙ ap (λ (l : List Float). overlay (24 * i) 24 (λ k. slotAt x y frame (24 * i + k)) l) e
-      ∙ ap (λ (p : ℕ). overlay p 24 (λ k. slotAt x y frame (24 * i + k)) (overlay 0 (24 * i) (slotAt x y frame) old)) (sym (zero-add (24 * i)))
-      ∙ overlay-join 0 (24 * i) 24 (slotAt x y frame) old
+      ∙ overlay-same (slotCount * i) slotCount (λ k. getD (slotsOf s) k nan) (λ k. slotAt x y frame (slotCount * i + k)) slots (slot-same i s f)
+      ∙ ap (λ (l : List Float). overlay (slotCount * i) slotCount (λ k. slotAt x y frame (slotCount * i + k)) l) e
+      ∙ ap (λ (p : ℕ). overlay p slotCount (λ k. slotAt x y frame (slotCount * i + k)) (overlay 0 (slotCount * i) (slotAt x y frame) old)) (sym (zero-add (slotCount * i)))
+      ∙ overlay-join 0 (slotCount * i) slotCount (slotAt x y frame) old
       ∙ ap (λ (n : ℕ). overlay 0 n (slotAt x y frame) old) w
 
   pub total-more : (i : ℕ) (total : Float) → total ≡ totalAt x y frame i →

@@ -1,3 +1,3 @@
-pub mod Nodes
 pub mod Sections
 pub mod Making
+pub mod Steps

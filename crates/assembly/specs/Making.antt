@@ -1,4 +1,4 @@
--- 01, Refusal numbers; Buffers and section records. What is asked of sizes, and what a lent buffer holds afterwards.
+-- 01, Refusal numbers; Buffers and section records. What is asked of sizes, and what is made of a table in lent buffers.
 use Prim.Native.Nat.{ℕ, _-_, _*_}
 use mathlib.Core.Bool.{not}
 use mathlib.Core.List.{List, _∷_}
@@ -6,16 +6,15 @@ use lib.Dec.{eqb, ltb}
 use lib.Ieee.{Float}
 use lib.ListN.{length}
 use Rattle.numbers.specs.Overlay.{overlay}
-use Rattle.refusal.specs.Refusal.{Test, first, _⇒_}
 use Rattle.numbers.specs.Sizes.{slotCount}
+use Rattle.refusal.specs.Refusal.{Test, first, _⇒_}
 use Rattle.refusal.specs.declared.Refusal.the-variants.{LengthsDiffer, TooFewPoints}
 use Rattle.refusal.specs.declared.Verdict.{Verdict}
-use Rattle.refusal.specs.declared.Verdict.the-variants as verdict
+use Rattle.table.specs.Buffers.{Buffers, Outcome, judged}
 use Rattle.table.specs.Check.{roomTests}
 use Rattle.table.specs.Table.{nodeAt}
 use Rattle.table.specs.declared.ends.Frame.{Frame}
-use Rattle.assembly.specs.Sections.{tagAt, slotAt}
-use Rattle.assembly.specs.declared.sections.Tail.{Tail}
+use Rattle.assembly.specs.Sections.{tagAt, slotAt, tailOf}
 use Rattle.assembly.specs.declared.making.Made.{Made}
 use Rattle.assembly.specs.declared.making.Made.the-variants as made
 
@@ -23,19 +22,10 @@ use Rattle.assembly.specs.declared.making.Made.the-variants as made
 abbrev pub sizeTests : ℕ → ℕ → ℕ → ℕ → ℕ → List Test
 sizeTests n m nodes tags slots = (not (eqb n m) ⇒ LengthsDiffer) ∷ (ltb n 2 ⇒ TooFewPoints) ∷ roomTests n nodes tags slots
 
-abbrev pub sizeVerdict : List Float → List Float → List Float → List ℕ → List Float → Verdict
-sizeVerdict x y nodes tags slots = first (sizeTests (length x) (length y) (length nodes) (length tags) (length slots))
+abbrev pub sizeVerdict : List Float → List Float → Buffers → Verdict
+sizeVerdict x y b = first (sizeTests (length x) (length y) (length (b .nodes)) (length (b .tags)) (length (b .slots)))
 
-abbrev pub madeOf : Verdict → Tail → Made
-madeOf verdict.Accepted t = made.Tail t
-madeOf (verdict.Refused r) t = made.Refused r
-
--- what a lent buffer holds: as it was, unless the table was accepted
-abbrev pub left : {A : Type 0} → Verdict → List A → List A → List A
-left verdict.Accepted new old = new
-left (verdict.Refused r) new old = old
-
--- the buffers with the nodes and records of a table of n points from place p on: n nodes, n - 1 tags, 24 slots to each of these
+-- the nodes and records of a table of n points from place p on: n nodes, n - 1 tags, a record's slots to each of these
 module _ (p : ℕ) (x y : List Float) (frame : Frame) where
   abbrev pub nodesAfter : List Float → List Float
   nodesAfter old = overlay p (length x) (nodeAt x y frame) old
@@ -45,3 +35,10 @@ module _ (p : ℕ) (x y : List Float) (frame : Frame) where
 
   abbrev pub slotsAfter : List Float → List Float
   slotsAfter old = overlay (slotCount * p) (slotCount * (length x - 1)) (slotAt x y frame) old
+
+  abbrev pub after : Buffers → Buffers
+  after b = record { nodes = nodesAfter (b .nodes); tags = tagsAfter (b .tags); slots = slotsAfter (b .slots) }
+
+  -- what is made where the verdict on the sizes is v
+  abbrev pub madeFrom : Verdict → Buffers → Outcome Made
+  madeFrom v b = judged v made.Refused b (record { answer = made.Tail (tailOf x y frame); buffers = after b })

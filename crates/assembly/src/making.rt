@@ -6,12 +6,11 @@ use refusal::Verdict;
 use table::check::room_verdict;
 use table::ends::Frame;
 ghost use mathlib.Core.Path.{_≡_};
-ghost use lib.ListN.{length};
 ghost use Rattle.refusal.specs.Refusal.{first};
-ghost use Rattle.assembly.specs.Sections.{tailOf};
-ghost use Rattle.assembly.specs.Making.{sizeTests, sizeVerdict, madeOf, left, nodesAfter, tagsAfter, slotsAfter};
+ghost use Rattle.table.specs.Buffers.{buffers, outcome};
+ghost use Rattle.assembly.specs.Making.{sizeTests, sizeVerdict, madeFrom};
 
-// What making answers: the record beyond the last knot, or why nothing was made.
+// What making answers: the tail, or why nothing was made.
 pub enum Made {
     Tail(Tail),
     Refused(Refusal),
@@ -39,10 +38,7 @@ pub fn make(
     tags: &mut [u16],
     slots: &mut [f64],
 ) -> Made
-    ensures made { λ r. ⌜ r ≡ madeOf (sizeVerdict (now (xs .entry)) (now (ys .entry)) (now (nodes .entry)) (now (tags .entry)) (now (slots .entry))) (tailOf (now (xs .entry)) (now (ys .entry)) frame) ⌝ }
-    ensures nodes { λ _. ⌜ now (nodes .exit) ≡ left (sizeVerdict (now (xs .entry)) (now (ys .entry)) (now (nodes .entry)) (now (tags .entry)) (now (slots .entry))) (nodesAfter 0 (now (xs .entry)) (now (ys .entry)) frame (now (nodes .entry))) (now (nodes .entry)) ⌝ }
-    ensures tags { λ _. ⌜ now (tags .exit) ≡ left (sizeVerdict (now (xs .entry)) (now (ys .entry)) (now (nodes .entry)) (now (tags .entry)) (now (slots .entry))) (tagsAfter 0 (now (xs .entry)) (now (ys .entry)) frame (now (tags .entry))) (now (tags .entry)) ⌝ }
-    ensures slots { λ _. ⌜ now (slots .exit) ≡ left (sizeVerdict (now (xs .entry)) (now (ys .entry)) (now (nodes .entry)) (now (tags .entry)) (now (slots .entry))) (slotsAfter 0 (now (xs .entry)) (now (ys .entry)) frame (now (slots .entry))) (now (slots .entry)) ⌝ }
+    ensures { λ r. ⌜ outcome r (now (nodes .exit)) (now (tags .exit)) (now (slots .exit)) ≡ madeFrom 0 (now (xs .entry)) (now (ys .entry)) frame (sizeVerdict (now (xs .entry)) (now (ys .entry)) (buffers (now (nodes .entry)) (now (tags .entry)) (now (slots .entry)))) (buffers (now (nodes .entry)) (now (tags .entry)) (now (slots .entry))) ⌝ }
 {
     match size_verdict(xs.len(), ys.len(), nodes.len(), tags.len(), slots.len()) {
         Verdict::Refused(refusal) => Made::Refused(refusal),

@@ -7,7 +7,7 @@ ghost use Prim.Native.Nat.{_+_, _-_, _≤_, _<_};
 ghost use lib.ListN.{length};
 ghost use Rattle.numbers.specs.Overlay.{overlay};
 ghost use Rattle.table.specs.Table.{inner, seamed, outer, orGiven, middleAt, nodeAt};
-ghost use Rattle.assembly.specs.Nodes.{beside, firstFrom, lastFrom};
+ghost use Rattle.assembly.specs.Steps.{beside, firstFrom, lastFrom};
 
 // The node at an inner knot, from its neighbours and the averages of the periods on its two sides.
 pub fn inner(before: f64, here: f64, after: f64, y: f64, next: f64) -> f64

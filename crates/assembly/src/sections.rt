@@ -1,5 +1,6 @@
 // The sections of a table, and their records in lent buffers.
 use choice::period::Period;
+use numbers::FIELDS;
 use numbers::SLOTS;
 use record::number::value_in;
 use record::reading::Found;
@@ -13,12 +14,15 @@ ghost use lib.Dec.{eqb};
 ghost use lib.Ieee.{Float, nan};
 ghost use lib.ListN.{length, getD, set};
 ghost use Rattle.numbers.specs.Overlay.{overlay};
+ghost use Rattle.numbers.specs.Sizes.{fieldCount, slotCount};
 ghost use Rattle.record.specs.Slots.{slotsOf};
 ghost use Rattle.record.specs.Tag.{tagOf};
 ghost use Rattle.record.specs.Reading.{recordAt};
+ghost use Rattle.table.specs.Buffers.{buffers, outcome};
+ghost use Rattle.table.specs.Sound.{Room};
 ghost use Rattle.table.specs.Table.{at, nodeAt, totalAt};
 ghost use Rattle.assembly.specs.Sections.{sectionAt, tailOf};
-ghost use Rattle.assembly.specs.Making.{nodesAfter, tagsAfter, slotsAfter};
+ghost use Rattle.assembly.specs.Making.{tagsAfter, slotsAfter, after};
 
 // A constant section's three numbers, as a curve keeps them for queries from the last knot on.
 pub struct Tail {
@@ -27,20 +31,20 @@ pub struct Tail {
     pub from: f64,
 }
 
-fn copy(from: [f64; SLOTS], to: &mut [f64], at: usize)
-    requires { ⌜ (at + 24 ≤ length (now to)) × (at ≤ 98304) ⌝ }
-    ensures { λ _. ⌜ now (to .exit) ≡ overlay at 24 (λ k. getD from k nan) (now (to .entry)) ⌝ }
+fn copy(from: [f64; FIELDS], to: &mut [f64], at: usize)
+    requires { ⌜ (at + fieldCount ≤ length (now to)) × (at ≤ slotCount * 4096) ⌝ }
+    ensures { λ _. ⌜ now (to .exit) ≡ overlay at fieldCount (λ k. getD from k nan) (now (to .entry)) ⌝ }
 {
-    for k in 0..SLOTS {
+    for k in 0..FIELDS {
         to[at + k] = from[k];
     }
 }
 
 // Writes a section's record at its place.
 fn put(section: Section, i: usize, tags: &mut [u16], slots: &mut [f64])
-    requires { ⌜ (i < length (now tags)) × (24 * i + 24 ≤ length (now slots)) × (i < 4096) ⌝ }
+    requires { ⌜ (i < length (now tags)) × (slotCount * i + slotCount ≤ length (now slots)) × (i < 4096) ⌝ }
     ensures tags { λ _. ⌜ now (tags .exit) ≡ set (now (tags .entry)) i (tagOf section) ⌝ }
-    ensures slots { λ _. ⌜ now (slots .exit) ≡ overlay (24 * i) 24 (λ k. getD (slotsOf section) k nan) (now (slots .entry)) ⌝ }
+    ensures slots { λ _. ⌜ now (slots .exit) ≡ overlay (slotCount * i) slotCount (λ k. getD (slotsOf section) k nan) (now (slots .entry)) ⌝ }
 {
     tags[i] = record::tag::tag_of(section);
     copy(record::slots::slots_of(section), slots, SLOTS * i);
@@ -85,8 +89,7 @@ fn put_sections(
     tags: &mut [u16],
     slots: &mut [f64],
 ) -> f64
-    requires { ⌜ (2 ≤ length (now xs)) × (length (now xs) ≡ length (now ys)) × (length (now xs) ≤ length (now nodes)) × (length (now xs) ≤ 4096) ⌝ }
-    requires { ⌜ (length (now xs) - 1 ≤ length (now tags)) × (24 * (length (now xs) - 1) ≤ length (now slots)) ⌝ }
+    requires { ⌜ (2 ≤ length (now xs)) × (length (now xs) ≡ length (now ys)) × Room (length (now xs)) (length (now nodes)) (length (now tags)) (length (now slots)) ⌝ }
     requires { ⌜ ((k : ℕ) → k < length (now xs) → at (now nodes) k ≡ nodeAt (now xs) (now ys) frame k) ⌝ }
     ensures total { λ r. ⌜ r ≡ totalAt (now (xs .entry)) (now (ys .entry)) frame (length (now (xs .entry)) - 2) ⌝ }
     ensures tags { λ _. ⌜ now (tags .exit) ≡ tagsAfter 0 (now (xs .entry)) (now (ys .entry)) frame (now (tags .entry)) ⌝ }
@@ -103,10 +106,10 @@ fn put_sections(
     before
 }
 
-// The record beyond the last knot. Where the last period is shaped, its price there is read from its record.
+// The tail. Where the last period is shaped, its price there is read from its record.
 fn tail_of(xs: &[f64], ys: &[f64], frame: Frame, tags: &[u16], slots: &[f64], total: f64) -> Tail
     requires { ⌜ (2 ≤ length (now xs)) × (length (now xs) ≡ length (now ys)) × (length (now xs) ≤ 4096) ⌝ }
-    requires { ⌜ (length (now xs) - 1 ≤ length (now tags)) × (24 * (length (now xs) - 1) ≤ length (now slots)) ⌝ }
+    requires { ⌜ (length (now xs) - 1 ≤ length (now tags)) × (slotCount * (length (now xs) - 1) ≤ length (now slots)) ⌝ }
     requires { ⌜ recordAt (now tags) (now slots) (length (now xs) - 2) ≡ Found.Section (sectionAt (now xs) (now ys) frame (length (now xs) - 2)) ⌝ }
     requires { ⌜ total ≡ totalAt (now xs) (now ys) frame (length (now xs) - 2) ⌝ }
     ensures { λ r. ⌜ r ≡ tailOf (now (xs .entry)) (now (ys .entry)) frame ⌝ }
@@ -123,13 +126,13 @@ fn tail_of(xs: &[f64], ys: &[f64], frame: Frame, tags: &[u16], slots: &[f64], to
     let from = SLOTS * i;
     let last = value_in(tags[i], &slots[from..from + SLOTS], end);
     Tail {
-        value: last.or_nought(),
+        value: last.or_zero(),
         total: total + ys[i + 1] * (end - xs[i]),
         from: end,
     }
 }
 
-// Nodes, tags and slots of a table that has passed its checks; answers the record beyond the last knot.
+// Nodes, tags and slots of a table that has passed its checks; answers the tail.
 pub(crate) fn put_all(
     xs: &[f64],
     ys: &[f64],
@@ -138,12 +141,8 @@ pub(crate) fn put_all(
     tags: &mut [u16],
     slots: &mut [f64],
 ) -> Tail
-    requires { ⌜ (2 ≤ length (now xs)) × (length (now xs) ≡ length (now ys)) × (length (now xs) ≤ 4096) ⌝ }
-    requires { ⌜ (length (now xs) ≤ length (now nodes)) × (length (now xs) - 1 ≤ length (now tags)) × (24 * (length (now xs) - 1) ≤ length (now slots)) ⌝ }
-    ensures tail { λ r. ⌜ r ≡ tailOf (now (xs .entry)) (now (ys .entry)) frame ⌝ }
-    ensures nodes { λ _. ⌜ now (nodes .exit) ≡ nodesAfter 0 (now (xs .entry)) (now (ys .entry)) frame (now (nodes .entry)) ⌝ }
-    ensures tags { λ _. ⌜ now (tags .exit) ≡ tagsAfter 0 (now (xs .entry)) (now (ys .entry)) frame (now (tags .entry)) ⌝ }
-    ensures slots { λ _. ⌜ now (slots .exit) ≡ slotsAfter 0 (now (xs .entry)) (now (ys .entry)) frame (now (slots .entry)) ⌝ }
+    requires { ⌜ (2 ≤ length (now xs)) × (length (now xs) ≡ length (now ys)) × Room (length (now xs)) (length (now nodes)) (length (now tags)) (length (now slots)) ⌝ }
+    ensures { λ r. ⌜ outcome r (now (nodes .exit)) (now (tags .exit)) (now (slots .exit)) ≡ record { answer = tailOf (now (xs .entry)) (now (ys .entry)) frame; buffers = after 0 (now (xs .entry)) (now (ys .entry)) frame (buffers (now (nodes .entry)) (now (tags .entry)) (now (slots .entry))) } ⌝ }
 {
     crate::nodes::fill(xs, ys, frame, nodes);
     let total = put_sections(xs, ys, frame, nodes, tags, slots);

@@ -2,7 +2,7 @@
 use mathlib.Core.Bool.{Bool, true, false, cond, not, _&&_}
 use mathlib.Core.Path.{_≡_, refl}
 use lib.Ieee.{Float, lt}
-use Rattle.numbers.specs.Words.{_⊖_, nought, one}
+use Rattle.numbers.specs.Words.{_⊖_, zero, one}
 use Rattle.section.specs.declared.section.Section.{Section}
 use Rattle.section.specs.declared.section.Section.the-variants as section
 use Rattle.section.specs.declared.constant_grad.ConstantGrad.{ConstantGrad}
@@ -178,6 +178,6 @@ module _ (method : ConvexMonotone) (period : Period) where
   pub quadratic-at-one : flat P N ≡ false → lt quadraticity one ≡ false → onlyQuadratic (sectionOf method period) ≡ true
   quadratic-at-one f q = rw (all-quadratic method period f q) (search quadratic-only)
 
-  pub convex-at-zero : flat P N ≡ false → lt quadraticity one ≡ true → inFirst P N ≡ false → lt nought quadraticity ≡ false →
+  pub convex-at-zero : flat P N ≡ false → lt quadraticity one ≡ true → inFirst P N ≡ false → lt zero quadraticity ≡ false →
       noQuadratic (sectionOf method period) ≡ true
   convex-at-zero f b r q = rw (convex-alone method period f b r q) (search convex-no-quadratic)

@@ -2,7 +2,7 @@
 use mathlib.Core.Bool.{true, false, not, _&&_}
 use mathlib.Core.Path.{_≡_}
 use lib.Ieee.{Float, lt, le, eq}
-use Rattle.numbers.specs.Words.{_⊖_, nought, one, tiny, abs}
+use Rattle.numbers.specs.Words.{_⊖_, zero, one, tiny, abs}
 use Rattle.section.specs.declared.section.Section.the-variants as section
 use Rattle.section.specs.ConstantGrad as grad
 use Rattle.section.specs.Combination as combination
@@ -41,29 +41,29 @@ module _ (method : ConvexMonotone) (period : Period) where
 
     module _ (below : lt quadraticity one ≡ true) where
       -- the first region: no convex-monotone part and no weight
-      pub first-mixed : inFirst P N ≡ true → lt nought quadraticity ≡ true →
+      pub first-mixed : inFirst P N ≡ true → lt zero quadraticity ≡ true →
           sectionOf method period ≡ quadratic.alone (made period («force_positive» && minFits P N))
       unfolding sectionOf shaped firstRegion minKind
       first-mixed f q = rw (bent, below, f, q)
 
-      pub first-convex : inFirst P N ≡ true → lt nought quadraticity ≡ false → sectionOf method period ≡ quadratic.alone (made period «force_positive»)
+      pub first-convex : inFirst P N ≡ true → lt zero quadraticity ≡ false → sectionOf method period ≡ quadratic.alone (made period «force_positive»)
       unfolding sectionOf shaped firstRegion
       first-convex f q = rw (bent, below, f, q)
 
       -- outside it: two parts, weighted by the quadraticity, or the one part
-      pub both-parts : inFirst P N ≡ false → lt nought quadraticity ≡ true →
+      pub both-parts : inFirst P N ≡ false → lt zero quadraticity ≡ true →
           sectionOf method period ≡ section.Combination (combination.new (made period («force_positive» && minFits P N)) (convexPart method period P N) quadraticity)
       unfolding sectionOf shaped mixed minKind
       both-parts f q = rw (bent, below, f, q)
 
-      pub convex-alone : inFirst P N ≡ false → lt nought quadraticity ≡ false → sectionOf method period ≡ convex.alone (convexPart method period P N)
+      pub convex-alone : inFirst P N ≡ false → lt zero quadraticity ≡ false → sectionOf method period ≡ convex.alone (convexPart method period P N)
       unfolding sectionOf shaped mixed
       convex-alone f q = rw (bent, below, f, q)
 
 -- The original asks whether the quadraticity equals 0.0 or 1.0.
 -- Here it is asked whether it is above the one or below the other. From 0.0 to 1.0 that comes to the same.
-pub unless-zero : (q : Float) → le nought q ≡ true → lt nought q ≡ not (eq nought q)
-unless-zero q within = less-or-equal nought q within
+pub unless-zero : (q : Float) → le zero q ≡ true → lt zero q ≡ not (eq zero q)
+unless-zero q within = less-or-equal zero q within
 
 pub unless-one : (q : Float) → le q one ≡ true → lt q one ≡ not (eq q one)
 unless-one q within = less-or-equal q one within

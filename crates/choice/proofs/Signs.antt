@@ -7,12 +7,12 @@ use lib.Dec.{eqb}
 use borrow.Author.Tests.{lt-ltb, le-ltb, eqb-true}
 use lib.Ieee.{Float, nan, inf, fin, binary64, lt, le, eq, below, level, neg, up, down, ofBits}
 use lib.Ieee.Fits.{down-pos}
-use Rattle.numbers.specs.Words.{nought, tiny, abs}
+use Rattle.numbers.specs.Words.{zero, tiny, abs}
 use Rattle.numbers.proofs.Signs.{plus-is-not-below}
 use Rattle.choice.specs.Regions.{isTiny}
 
 -- no number is both above and below 0.0
-pub not-below : (x : Float) → lt nought x ≡ true → lt x nought ≡ false
+pub not-below : (x : Float) → lt zero x ≡ true → lt x zero ≡ false
 unfolding lt ofBits
 not-below nan h = refl
 not-below (inf true) h = cc
@@ -24,8 +24,8 @@ other-false : (a b : Bool) → (a ≡ true → b ≡ false) → b ≡ true → a
 other-false true b f h = cc (f refl)
 other-false false b f h = refl
 
-pub not-above : (x : Float) → lt x nought ≡ true → lt nought x ≡ false
-not-above x h = other-false (lt nought x) (lt x nought) (not-below x) h
+pub not-above : (x : Float) → lt x zero ≡ true → lt zero x ≡ false
+not-above x h = other-false (lt zero x) (lt x zero) (not-below x) h
 
 -- a number without its sign is below 1.0e-14 exactly when the number lies between the two
 pub tiny-sides : (x : Float) → isTiny x ≡ (lt (neg tiny) x && lt x tiny)

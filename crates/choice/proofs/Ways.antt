@@ -2,7 +2,7 @@
 use mathlib.Core.Bool.{Bool, true, false, _&&_, _||_, or-false}
 use mathlib.Core.Path.{_≡_}
 use lib.Ieee.{Float, lt}
-use Rattle.numbers.specs.Words.{nought}
+use Rattle.numbers.specs.Words.{zero}
 use Rattle.choice.proofs.Signs.{not-below, not-above}
 
 -- one after the other
@@ -14,13 +14,13 @@ and-left a b r h e = rw (e, h)
 
 -- one test of a number above 0.0 and another of a number below it
 module _ (P : Float) (a b r : Bool) where
-  pub above : lt nought P ≡ true → r ≡ a → r ≡ (lt nought P && a || lt P nought && b)
+  pub above : lt zero P ≡ true → r ≡ a → r ≡ (lt zero P && a || lt P zero && b)
   above h e = rw (h, not-below P h, or-false) e
 
-  pub below : lt P nought ≡ true → r ≡ b → r ≡ (lt nought P && a || lt P nought && b)
+  pub below : lt P zero ≡ true → r ≡ b → r ≡ (lt zero P && a || lt P zero && b)
   below h e = rw (not-above P h, h) e
 
-  pub neither : lt nought P ≡ false → lt P nought ≡ false → r ≡ false → r ≡ (lt nought P && a || lt P nought && b)
+  pub neither : lt zero P ≡ false → lt P zero ≡ false → r ≡ false → r ≡ (lt zero P && a || lt P zero && b)
   neither g h e = rw (g, h) e
 
 pub ruleset tests = (and-taken, and-left, above, below, neither)

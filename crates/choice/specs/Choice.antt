@@ -1,7 +1,7 @@
 -- 01, Choosing a section.
 use mathlib.Core.Bool.{cond}
 use lib.Ieee.{Float, lt}
-use Rattle.numbers.specs.Words.{_⊖_, nought, one}
+use Rattle.numbers.specs.Words.{_⊖_, zero, one}
 use Rattle.section.specs.declared.quadratic_part.QuadraticPart.{QuadraticPart}
 use Rattle.section.specs.declared.section.Section.{Section}
 use Rattle.section.specs.declared.section.Section.the-variants as section
@@ -20,12 +20,12 @@ module _ (method : ConvexMonotone) (period : Period) (P N : Float) where
 
   -- step 3, the first region: with no quadratic part from step 2 it is made here
   unfoldable pub firstRegion : QuadraticPart
-  firstRegion = cond (lt nought quadraticity) (quadraticPart method period P N) (made period «force_positive»)
+  firstRegion = cond (lt zero quadraticity) (quadraticPart method period P N) (made period «force_positive»)
 
   -- step 4 outside the first region: two parts, or the one
   unfoldable pub mixed : Section
   mixed =
-      cond (lt nought quadraticity)
+      cond (lt zero quadraticity)
       (section.Combination (combination.new (quadraticPart method period P N) (convexPart method period P N) quadraticity))
       (convex.alone (convexPart method period P N))
 

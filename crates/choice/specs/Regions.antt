@@ -2,7 +2,7 @@
 -- Each is false where a number that it compares is a NaN.
 use mathlib.Core.Bool.{Bool, _&&_, _||_}
 use lib.Ieee.{Float, lt, le, neg}
-use Rattle.numbers.specs.Words.{_⊗_, nought, half, two, tiny, abs}
+use Rattle.numbers.specs.Words.{_⊗_, zero, half, two, tiny, abs}
 
 abbrev pub isTiny : Float → Bool
 isTiny g = lt (abs g) tiny
@@ -19,13 +19,13 @@ module _ (P N : Float) where
   -- step 3: its three regions; what lies in none of them is the fourth
   unfoldable pub inFirst : Bool
   inFirst =
-      lt nought P && (le N (neg half ⊗ P) && le (neg two ⊗ P) N)
-      || lt P nought && (le (neg half ⊗ P) N && le N (neg two ⊗ P))
+      lt zero P && (le N (neg half ⊗ P) && le (neg two ⊗ P) N)
+      || lt P zero && (le (neg half ⊗ P) N && le N (neg two ⊗ P))
 
   unfoldable pub inSecond : Bool
-  inSecond = lt P nought && lt (neg two ⊗ P) N || lt nought P && lt N (neg two ⊗ P)
+  inSecond = lt P zero && lt (neg two ⊗ P) N || lt zero P && lt N (neg two ⊗ P)
 
   unfoldable pub inThird : Bool
   inThird =
-      lt nought P && (lt N nought && lt (neg half ⊗ P) N)
-      || lt P nought && (lt nought N && lt N (neg half ⊗ P))
+      lt zero P && (lt N zero && lt (neg half ⊗ P) N)
+      || lt P zero && (lt zero N && lt N (neg half ⊗ P))

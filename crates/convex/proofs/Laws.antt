@@ -2,7 +2,7 @@
 use mathlib.Core.Bool.{Bool, true, false, _||_}
 use mathlib.Core.Path.{_≡_, refl}
 use lib.Ieee.{Float, le, lt}
-use Rattle.numbers.specs.Words.{_⊕_, _⊖_, _⊗_, _⊘_, nought, one}
+use Rattle.numbers.specs.Words.{_⊕_, _⊖_, _⊗_, _⊘_, zero, one}
 use Rattle.convex.specs.declared.convex_monotone4.ConvexMonotone4.{ConvexMonotone4}
 use Rattle.convex.specs.declared.convex_monotone4_min.ConvexMonotone4Min.{ConvexMonotone4Min}
 use Rattle.convex.specs.ConvexMonotone4 as cm4
@@ -19,7 +19,7 @@ module _ (s : ConvexMonotone4Min) (whole : s .«split_region» ≡ false) (x : F
   cm4min-whole-primitive = rw whole
 
 -- With a + f_average above zero, or a NaN, the fourth kind is built whole: positivity changes no number.
-module _ (base : ConvexMonotone4) (above : le (base .a ⊕ base .«f_average») nought ≡ false) (x : Float) where
+module _ (base : ConvexMonotone4) (above : le (base .a ⊕ base .«f_average») zero ≡ false) (x : Float) where
   pub cm4min-above-value : cm4min.value (cm4min.«of_base» base) x ≡ cm4.value base x
   unfolding cm4min.«of_base» cm4min.value
   cm4min-above-value = rw above
@@ -38,7 +38,7 @@ lt-le x y h = rw h
 
 -- Past x2 and before x3 a split section is +0.0 and nothing accumulates.
 module _ (s : ConvexMonotone4Min) (split : s .«split_region» ≡ true) (x : Float) (past : le x (s .x2) ≡ false) (before : lt x (s .x3) ≡ true) where
-  pub cm4min-zero-value : cm4min.value s x ≡ nought
+  pub cm4min-zero-value : cm4min.value s x ≡ zero
   unfolding cm4min.value
   cm4min-zero-value = rw (split, past, before)
 

@@ -1,62 +1,67 @@
--- Any two answers that a contract allows are the same, of the contract as the checker reads it: one line for each public function.
-use mathlib.Core.List.{List}
+-- Any two outcomes that a contract allows are the same, of each contract as the checker reads it.
 use mathlib.Core.Path.{_≡_, _∙_, sym}
-use contract.Lifetimes.{Lfts}
-use borrow.Fn.Kinds as K
-use denote.Triple.Clauses.{AtExit}
-use Rattle.convex.proofs.convex_monotone2.ConvexMonotone2 as cm2
-use Rattle.convex.proofs.convex_monotone3.ConvexMonotone3 as cm3
-use Rattle.convex.proofs.convex_monotone4.ConvexMonotone4 as cm4
-use Rattle.convex.proofs.convex_monotone4_min.ConvexMonotone4Min as cm4min
+use Rattle.numbers.specs.OneOutcome.{OneAnswer}
+use Rattle.convex.proofs.convex_monotone2.ConvexMonotone2.new.Reads as convex-monotone2-new
+use Rattle.convex.proofs.convex_monotone2.ConvexMonotone2.value.Reads as convex-monotone2-value
+use Rattle.convex.proofs.convex_monotone2.ConvexMonotone2.primitive.Reads as convex-monotone2-primitive
+use Rattle.convex.proofs.convex_monotone2.ConvexMonotone2.f_next.Reads as convex-monotone2-f-next
+use Rattle.convex.proofs.convex_monotone3.ConvexMonotone3.new.Reads as convex-monotone3-new
+use Rattle.convex.proofs.convex_monotone3.ConvexMonotone3.value.Reads as convex-monotone3-value
+use Rattle.convex.proofs.convex_monotone3.ConvexMonotone3.primitive.Reads as convex-monotone3-primitive
+use Rattle.convex.proofs.convex_monotone3.ConvexMonotone3.f_next.Reads as convex-monotone3-f-next
+use Rattle.convex.proofs.convex_monotone4.ConvexMonotone4.new.Reads as convex-monotone4-new
+use Rattle.convex.proofs.convex_monotone4.ConvexMonotone4.value.Reads as convex-monotone4-value
+use Rattle.convex.proofs.convex_monotone4.ConvexMonotone4.primitive.Reads as convex-monotone4-primitive
+use Rattle.convex.proofs.convex_monotone4.ConvexMonotone4.f_next.Reads as convex-monotone4-f-next
+use Rattle.convex.proofs.convex_monotone4_min.ConvexMonotone4Min.new.Reads as convex-monotone4-min-new
+use Rattle.convex.proofs.convex_monotone4_min.ConvexMonotone4Min.value.Reads as convex-monotone4-min-value
+use Rattle.convex.proofs.convex_monotone4_min.ConvexMonotone4Min.primitive.Reads as convex-monotone4-min-primitive
+use Rattle.convex.proofs.convex_monotone4_min.ConvexMonotone4Min.f_next.Reads as convex-monotone4-min-f-next
 
--- of a function with parameters ps and result r, all by value, whose `ensures` is Post
-abbrev Unique : (ps : List (K.PK 0)) (r : K.RK 0) → K.Out 0 ps r → Type 0
-Unique ps r Post = (κs : Lfts 0) (a : K.Dens κs ps) (r₁ r₂ : K.resT r κs .Denot) (s₁ s₂ : AtExit (K.endedOf 0 ps r) κs) → Post κs a r₁ s₁ → Post κs a r₂ s₂ → r₁ ≡ r₂
+pub convex-monotone2-new-unique : OneAnswer convex-monotone2-new.Post
+convex-monotone2-new-unique κ a r₁ r₂ s t p q = p ∙ sym q
 
-pub cm2-new : Unique cm2.new.Kinds.ps cm2.new.Kinds.r cm2.new.Reads.Post
-cm2-new κs a r₁ r₂ s₁ s₂ p q = p ∙ sym q
+pub convex-monotone2-value-unique : OneAnswer convex-monotone2-value.Post
+convex-monotone2-value-unique κ a r₁ r₂ s t p q = p ∙ sym q
 
-pub cm2-value : Unique cm2.value.Kinds.ps cm2.value.Kinds.r cm2.value.Reads.Post
-cm2-value κs a r₁ r₂ s₁ s₂ p q = p ∙ sym q
+pub convex-monotone2-primitive-unique : OneAnswer convex-monotone2-primitive.Post
+convex-monotone2-primitive-unique κ a r₁ r₂ s t p q = p ∙ sym q
 
-pub cm2-primitive : Unique cm2.primitive.Kinds.ps cm2.primitive.Kinds.r cm2.primitive.Reads.Post
-cm2-primitive κs a r₁ r₂ s₁ s₂ p q = p ∙ sym q
+pub convex-monotone2-f-next-unique : OneAnswer convex-monotone2-f-next.Post
+convex-monotone2-f-next-unique κ a r₁ r₂ s t p q = p ∙ sym q
 
-pub cm2-f-next : Unique cm2.f_next.Kinds.ps cm2.f_next.Kinds.r cm2.f_next.Reads.Post
-cm2-f-next κs a r₁ r₂ s₁ s₂ p q = p ∙ sym q
+pub convex-monotone3-new-unique : OneAnswer convex-monotone3-new.Post
+convex-monotone3-new-unique κ a r₁ r₂ s t p q = p ∙ sym q
 
-pub cm3-new : Unique cm3.new.Kinds.ps cm3.new.Kinds.r cm3.new.Reads.Post
-cm3-new κs a r₁ r₂ s₁ s₂ p q = p ∙ sym q
+pub convex-monotone3-value-unique : OneAnswer convex-monotone3-value.Post
+convex-monotone3-value-unique κ a r₁ r₂ s t p q = p ∙ sym q
 
-pub cm3-value : Unique cm3.value.Kinds.ps cm3.value.Kinds.r cm3.value.Reads.Post
-cm3-value κs a r₁ r₂ s₁ s₂ p q = p ∙ sym q
+pub convex-monotone3-primitive-unique : OneAnswer convex-monotone3-primitive.Post
+convex-monotone3-primitive-unique κ a r₁ r₂ s t p q = p ∙ sym q
 
-pub cm3-primitive : Unique cm3.primitive.Kinds.ps cm3.primitive.Kinds.r cm3.primitive.Reads.Post
-cm3-primitive κs a r₁ r₂ s₁ s₂ p q = p ∙ sym q
+pub convex-monotone3-f-next-unique : OneAnswer convex-monotone3-f-next.Post
+convex-monotone3-f-next-unique κ a r₁ r₂ s t p q = p ∙ sym q
 
-pub cm3-f-next : Unique cm3.f_next.Kinds.ps cm3.f_next.Kinds.r cm3.f_next.Reads.Post
-cm3-f-next κs a r₁ r₂ s₁ s₂ p q = p ∙ sym q
+pub convex-monotone4-new-unique : OneAnswer convex-monotone4-new.Post
+convex-monotone4-new-unique κ a r₁ r₂ s t p q = p ∙ sym q
 
-pub cm4-new : Unique cm4.new.Kinds.ps cm4.new.Kinds.r cm4.new.Reads.Post
-cm4-new κs a r₁ r₂ s₁ s₂ p q = p ∙ sym q
+pub convex-monotone4-value-unique : OneAnswer convex-monotone4-value.Post
+convex-monotone4-value-unique κ a r₁ r₂ s t p q = p ∙ sym q
 
-pub cm4-value : Unique cm4.value.Kinds.ps cm4.value.Kinds.r cm4.value.Reads.Post
-cm4-value κs a r₁ r₂ s₁ s₂ p q = p ∙ sym q
+pub convex-monotone4-primitive-unique : OneAnswer convex-monotone4-primitive.Post
+convex-monotone4-primitive-unique κ a r₁ r₂ s t p q = p ∙ sym q
 
-pub cm4-primitive : Unique cm4.primitive.Kinds.ps cm4.primitive.Kinds.r cm4.primitive.Reads.Post
-cm4-primitive κs a r₁ r₂ s₁ s₂ p q = p ∙ sym q
+pub convex-monotone4-f-next-unique : OneAnswer convex-monotone4-f-next.Post
+convex-monotone4-f-next-unique κ a r₁ r₂ s t p q = p ∙ sym q
 
-pub cm4-f-next : Unique cm4.f_next.Kinds.ps cm4.f_next.Kinds.r cm4.f_next.Reads.Post
-cm4-f-next κs a r₁ r₂ s₁ s₂ p q = p ∙ sym q
+pub convex-monotone4-min-new-unique : OneAnswer convex-monotone4-min-new.Post
+convex-monotone4-min-new-unique κ a r₁ r₂ s t p q = p ∙ sym q
 
-pub cm4min-new : Unique cm4min.new.Kinds.ps cm4min.new.Kinds.r cm4min.new.Reads.Post
-cm4min-new κs a r₁ r₂ s₁ s₂ p q = p ∙ sym q
+pub convex-monotone4-min-value-unique : OneAnswer convex-monotone4-min-value.Post
+convex-monotone4-min-value-unique κ a r₁ r₂ s t p q = p ∙ sym q
 
-pub cm4min-value : Unique cm4min.value.Kinds.ps cm4min.value.Kinds.r cm4min.value.Reads.Post
-cm4min-value κs a r₁ r₂ s₁ s₂ p q = p ∙ sym q
+pub convex-monotone4-min-primitive-unique : OneAnswer convex-monotone4-min-primitive.Post
+convex-monotone4-min-primitive-unique κ a r₁ r₂ s t p q = p ∙ sym q
 
-pub cm4min-primitive : Unique cm4min.primitive.Kinds.ps cm4min.primitive.Kinds.r cm4min.primitive.Reads.Post
-cm4min-primitive κs a r₁ r₂ s₁ s₂ p q = p ∙ sym q
-
-pub cm4min-f-next : Unique cm4min.f_next.Kinds.ps cm4min.f_next.Kinds.r cm4min.f_next.Reads.Post
-cm4min-f-next κs a r₁ r₂ s₁ s₂ p q = p ∙ sym q
+pub convex-monotone4-min-f-next-unique : OneAnswer convex-monotone4-min-f-next.Post
+convex-monotone4-min-f-next-unique κ a r₁ r₂ s t p q = p ∙ sym q

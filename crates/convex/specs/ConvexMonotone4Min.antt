@@ -1,13 +1,13 @@
 -- 000, ConvexMonotone4MinHelper
 use mathlib.Core.Bool.{true, false, not, cond}
 use lib.Ieee.{Float, le, lt, neg}
-use Rattle.numbers.specs.Words.{_⊕_, _⊖_, _⊗_, _⊘_, nought, one, two, three}
+use Rattle.numbers.specs.Words.{_⊕_, _⊖_, _⊗_, _⊘_, zero, one, two, three}
 use Rattle.convex.specs.declared.convex_monotone4.ConvexMonotone4.{ConvexMonotone4}
 use Rattle.convex.specs.declared.convex_monotone4_min.ConvexMonotone4Min.{ConvexMonotone4Min}
 use Rattle.convex.specs.ConvexMonotone4 as cm4
 
 abbrev pub unsplit : ConvexMonotone4 → ConvexMonotone4Min
-unsplit base = record { base = base; «split_region» = false; «x_ratio» = nought; x2 = nought; x3 = nought }
+unsplit base = record { base = base; «split_region» = false; «x_ratio» = zero; x2 = zero; x3 = zero }
 
 -- the base as it was built, reshaped, with the zero stretch from x2 to x3
 unfoldable pub split : ConvexMonotone4 → ConvexMonotone4Min
@@ -40,7 +40,7 @@ split old =
 
 unfoldable pub «of_base» : ConvexMonotone4 → ConvexMonotone4Min
 unfolding split
-«of_base» base = cond (le (base .a ⊕ base .«f_average») nought) (split base) (unsplit base)
+«of_base» base = cond (le (base .a ⊕ base .«f_average») zero) (split base) (unsplit base)
 
 abbrev pub new : Float → Float → Float → Float → Float → Float → Float → ConvexMonotone4Min
 new «x_prev» «x_next» «g_prev» «g_next» «f_average» eta4 «prev_primitive» =
@@ -61,7 +61,7 @@ module _ (s : ConvexMonotone4Min) where
   value x =
       cond (not «split_region») (cm4.value base x)
       (cond (le x x2) (cm4.«left_value» base (before x))
-      (cond (lt x x3) nought (cm4.«right_value» base (after x))))
+      (cond (lt x x3) zero (cm4.«right_value» base (after x))))
 
   abbrev pub «zero_primitive» : Float
   «zero_primitive» =

@@ -1,6 +1,6 @@
 -- 01, Refusal numbers; Queries, settings and growth: what a build answers, and how it is told.
 use mathlib.Core.Bool.{Bool}
-use Rattle.numbers.specs.Words.{nought}
+use Rattle.numbers.specs.Words.{zero}
 use Rattle.refusal.specs.Refusal.{number}
 use Rattle.curve.specs.declared.curve.Curve.{Curve}
 use Rattle.curve.specs.declared.curve.Built.{Built}
@@ -13,4 +13,4 @@ withExtrapolation c allow = record { sections = c .sections; held = c .held; ext
 -- a refusal's number, or 0, with the section count and the record's three numbers
 abbrev pub toldCurve : Built → ToldCurve
 toldCurve (built.Curve c) = record { refusal = 0; sections = c .sections; tail = c .tail }
-toldCurve (built.Refused r) = record { refusal = number r; sections = 0; tail = record { value = nought; total = nought; from = nought } }
+toldCurve (built.Refused r) = record { refusal = number r; sections = 0; tail = record { value = zero; total = zero; from = zero } }

@@ -14,7 +14,8 @@ use table::ends::Seam;
 use table::method::ConvexMonotone;
 ghost use mathlib.Core.Path.{_≡_};
 ghost use Rattle.refusal.specs.Refusal.{first};
-ghost use Rattle.curve.specs.Build.{seamedTests, buildTests, wholeFrame, builtOf, nodesLeft, tagsLeft, slotsLeft};
+ghost use Rattle.table.specs.Buffers.{buffers, outcome};
+ghost use Rattle.curve.specs.Build.{seamedTests, buildTests, wholeFrame, buildOutcome};
 
 // Refusals 1 to 8.
 fn seamed_verdict(xs: &[f64], ys: &[f64], method: ConvexMonotone, seam: Seam) -> Verdict
@@ -87,10 +88,7 @@ pub fn build(
     tags: &mut [u16],
     slots: &mut [f64],
 ) -> Built
-    ensures built { λ r. ⌜ r ≡ builtOf (now (xs .entry)) (now (ys .entry)) method hold seam (now (nodes .entry)) (now (tags .entry)) (now (slots .entry)) ⌝ }
-    ensures nodes { λ _. ⌜ now (nodes .exit) ≡ nodesLeft (now (xs .entry)) (now (ys .entry)) method hold seam (now (nodes .entry)) (now (tags .entry)) (now (slots .entry)) ⌝ }
-    ensures tags { λ _. ⌜ now (tags .exit) ≡ tagsLeft (now (xs .entry)) (now (ys .entry)) method hold seam (now (nodes .entry)) (now (tags .entry)) (now (slots .entry)) ⌝ }
-    ensures slots { λ _. ⌜ now (slots .exit) ≡ slotsLeft (now (xs .entry)) (now (ys .entry)) method hold seam (now (nodes .entry)) (now (tags .entry)) (now (slots .entry)) ⌝ }
+    ensures { λ r. ⌜ outcome r (now (nodes .exit)) (now (tags .exit)) (now (slots .exit)) ≡ buildOutcome (now (xs .entry)) (now (ys .entry)) method hold seam (buffers (now (nodes .entry)) (now (tags .entry)) (now (slots .entry))) ⌝ }
 {
     match seamed_verdict(xs, ys, method, seam) {
         Verdict::Refused(refusal) => Built::Refused(refusal),

@@ -1,7 +1,3 @@
-pub mod Cuts
+pub mod Across
 pub mod Enough
-pub mod Growths
-pub mod Tables
-pub mod Told
 pub mod Unique
-pub mod Drawings

@@ -1,4 +1,4 @@
 pub mod Building
-pub mod Cutting
+pub mod InSheets
 pub mod Growing
-pub mod Drawing
+pub mod OneSheet

@@ -7,11 +7,13 @@ use refusal::Verdict;
 use table::ends::Seam;
 use table::method::ConvexMonotone;
 ghost use mathlib.Core.Path.{_≡_};
-ghost use mathlib.Core.Bool.{cond};
 ghost use Prim.Native.Nat.{_≤_};
 ghost use lib.ListN.{length};
+ghost use Rattle.table.specs.Buffers.{buffers};
+ghost use Rattle.table.specs.Method.{new};
+ghost use Rattle.curve.specs.Build.{buildOutcome};
 ghost use Rattle.curve.specs.Curve.{toldCurve};
-ghost use Rattle.export_build.specs.Building.{seamOf, noAnswer, lastRefusal, countLeft, recordLeft, buildRefusal, nodesOut, tagsOut, slotsOut, sectionsOut, tailOut};
+ghost use Rattle.export_build.specs.Building.{seamOf, across, noAnswer, countLeft, tailLeft, curveAcross, lastRefusal};
 
 // A seam across the boundary: whether there is one, its count and its node.
 fn seam_of(seamed: bool, count: usize, node: f64) -> Seam
@@ -23,7 +25,7 @@ fn seam_of(seamed: bool, count: usize, node: f64) -> Seam
     Seam::Absent
 }
 
-// Whether there is no room for a curve's own numbers: one entry for the count of its sections, three for the record beyond its last knot.
+// Whether there is no room for a curve's own numbers: one entry for the count of its sections, three for its tail.
 pub(crate) fn no_answer(sections: usize, tail: usize) -> bool
     ensures { λ r. ⌜ r ≡ noAnswer sections tail ⌝ }
 {
@@ -43,28 +45,28 @@ pub(crate) fn last_refusal(verdict: Verdict) -> u8
     }
 }
 
-// A curve in numbers, its count and record written where there is room for them.
+// A curve in numbers, its count and tail written where there is room for them.
 pub(crate) fn tell(built: Built, sections: &mut [usize], tail: &mut [f64]) -> u8
     requires { ⌜ (1 ≤ length (now sections)) × (3 ≤ length (now tail)) ⌝ }
     ensures refusal { λ r. ⌜ r ≡ toldCurve built .refusal ⌝ }
     ensures sections { λ _. ⌜ now (sections .exit) ≡ countLeft built (now (sections .entry)) ⌝ }
-    ensures tail { λ _. ⌜ now (tail .exit) ≡ recordLeft built (now (tail .entry)) ⌝ }
+    ensures tail { λ _. ⌜ now (tail .exit) ≡ tailLeft built (now (tail .entry)) ⌝ }
 {
     match built {
         Built::Refused(refusal) => refusal.number(),
         Built::Curve(curve) => {
-            let record = curve.tail;
+            let end = curve.tail;
             sections[0] = curve.sections;
-            tail[0] = record.value;
-            tail[1] = record.total;
-            tail[2] = record.from;
+            tail[0] = end.value;
+            tail[1] = end.total;
+            tail[2] = end.from;
             0
         }
     }
 }
 
 // Builds the curve of a table. Nodes, tags and slots are written from the start of the lent buffers, the count of sections into `sections`, and
-// the record beyond the last knot (value, total, from) into `tail`.
+// its tail (value, total, from) into `tail`.
 #[no_mangle]
 pub extern "C" fn havgrunel_build(
     knots: &[f64],
@@ -82,12 +84,7 @@ pub extern "C" fn havgrunel_build(
     sections: &mut [usize],
     tail: &mut [f64],
 ) -> u8
-    ensures refusal { λ r. ⌜ r ≡ buildRefusal (now (knots .entry)) (now (averages .entry)) quadraticity monotonicity positive hold seamed «seam_count» «seam_node» (now (nodes .entry)) (now (tags .entry)) (now (slots .entry)) (now (sections .entry)) (now (tail .entry)) ⌝ }
-    ensures nodes { λ _. ⌜ now (nodes .exit) ≡ nodesOut (now (knots .entry)) (now (averages .entry)) quadraticity monotonicity positive hold seamed «seam_count» «seam_node» (now (nodes .entry)) (now (tags .entry)) (now (slots .entry)) (now (sections .entry)) (now (tail .entry)) ⌝ }
-    ensures tags { λ _. ⌜ now (tags .exit) ≡ tagsOut (now (knots .entry)) (now (averages .entry)) quadraticity monotonicity positive hold seamed «seam_count» «seam_node» (now (nodes .entry)) (now (tags .entry)) (now (slots .entry)) (now (sections .entry)) (now (tail .entry)) ⌝ }
-    ensures slots { λ _. ⌜ now (slots .exit) ≡ slotsOut (now (knots .entry)) (now (averages .entry)) quadraticity monotonicity positive hold seamed «seam_count» «seam_node» (now (nodes .entry)) (now (tags .entry)) (now (slots .entry)) (now (sections .entry)) (now (tail .entry)) ⌝ }
-    ensures sections { λ _. ⌜ now (sections .exit) ≡ sectionsOut (now (knots .entry)) (now (averages .entry)) quadraticity monotonicity positive hold seamed «seam_count» «seam_node» (now (nodes .entry)) (now (tags .entry)) (now (slots .entry)) (now (sections .entry)) (now (tail .entry)) ⌝ }
-    ensures tail { λ _. ⌜ now (tail .exit) ≡ tailOut (now (knots .entry)) (now (averages .entry)) quadraticity monotonicity positive hold seamed «seam_count» «seam_node» (now (nodes .entry)) (now (tags .entry)) (now (slots .entry)) (now (sections .entry)) (now (tail .entry)) ⌝ }
+    ensures { λ r. ⌜ across r (now (nodes .exit)) (now (tags .exit)) (now (slots .exit)) (now (sections .exit)) (now (tail .exit)) ≡ curveAcross (buffers (now (nodes .entry)) (now (tags .entry)) (now (slots .entry))) (now (sections .entry)) (now (tail .entry)) (buildOutcome (now (knots .entry)) (now (averages .entry)) (new quadraticity monotonicity positive) hold (seamOf seamed «seam_count» «seam_node») (buffers (now (nodes .entry)) (now (tags .entry)) (now (slots .entry)))) ⌝ }
 {
     let method = ConvexMonotone::new(quadraticity, monotonicity, positive);
     let seam = seam_of(seamed, seam_count, seam_node);

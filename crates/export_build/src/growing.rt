@@ -13,11 +13,14 @@ use table::method::ConvexMonotone;
 ghost use mathlib.Core.Path.{_≡_};
 ghost use lib.ListN.{length};
 ghost use Rattle.refusal.specs.Refusal.{first};
+ghost use Rattle.table.specs.Buffers.{buffers};
+ghost use Rattle.table.specs.Method.{new};
 ghost use Rattle.curve.specs.Build.{buildTests};
-ghost use Rattle.growth.specs.Growth.{carriedAt};
-ghost use Rattle.export_build.specs.Growing.{previousOf, lastGrowth, growRefusal, nodesGrown, tagsGrown, slotsGrown, sectionsGrown, tailGrown};
+ghost use Rattle.growth.specs.Growth.{carriedAt, growOutcome};
+ghost use Rattle.export_build.specs.Building.{across, curveAcross};
+ghost use Rattle.export_build.specs.Growing.{previousOf, lastGrowth};
 
-// What growth reads of the previous curve beside its records. It asks for no price, so the record beyond the last knot is not needed.
+// What growth reads of the previous curve beside its records. It asks for no price, so the tail is not needed.
 fn previous_of(given: bool, sections: usize, held: bool) -> Previous
     ensures { λ r. ⌜ r ≡ previousOf given sections held ⌝ }
 {
@@ -88,12 +91,7 @@ pub extern "C" fn havgrunel_grow(
     sections: &mut [usize],
     tail: &mut [f64],
 ) -> u8
-    ensures refusal { λ r. ⌜ r ≡ growRefusal (now (knots .entry)) (now (averages .entry)) quadraticity monotonicity positive localisation «final_size» grown «previous_sections» «previous_held» (now («previous_tags» .entry)) (now («previous_slots» .entry)) (now (nodes .entry)) (now (tags .entry)) (now (slots .entry)) (now (sections .entry)) (now (tail .entry)) ⌝ }
-    ensures nodes { λ _. ⌜ now (nodes .exit) ≡ nodesGrown (now (knots .entry)) (now (averages .entry)) quadraticity monotonicity positive localisation «final_size» grown «previous_sections» «previous_held» (now («previous_tags» .entry)) (now («previous_slots» .entry)) (now (nodes .entry)) (now (tags .entry)) (now (slots .entry)) (now (sections .entry)) (now (tail .entry)) ⌝ }
-    ensures tags { λ _. ⌜ now (tags .exit) ≡ tagsGrown (now (knots .entry)) (now (averages .entry)) quadraticity monotonicity positive localisation «final_size» grown «previous_sections» «previous_held» (now («previous_tags» .entry)) (now («previous_slots» .entry)) (now (nodes .entry)) (now (tags .entry)) (now (slots .entry)) (now (sections .entry)) (now (tail .entry)) ⌝ }
-    ensures slots { λ _. ⌜ now (slots .exit) ≡ slotsGrown (now (knots .entry)) (now (averages .entry)) quadraticity monotonicity positive localisation «final_size» grown «previous_sections» «previous_held» (now («previous_tags» .entry)) (now («previous_slots» .entry)) (now (nodes .entry)) (now (tags .entry)) (now (slots .entry)) (now (sections .entry)) (now (tail .entry)) ⌝ }
-    ensures sections { λ _. ⌜ now (sections .exit) ≡ sectionsGrown (now (knots .entry)) (now (averages .entry)) quadraticity monotonicity positive localisation «final_size» grown «previous_sections» «previous_held» (now («previous_tags» .entry)) (now («previous_slots» .entry)) (now (nodes .entry)) (now (tags .entry)) (now (slots .entry)) (now (sections .entry)) (now (tail .entry)) ⌝ }
-    ensures tail { λ _. ⌜ now (tail .exit) ≡ tailGrown (now (knots .entry)) (now (averages .entry)) quadraticity monotonicity positive localisation «final_size» grown «previous_sections» «previous_held» (now («previous_tags» .entry)) (now («previous_slots» .entry)) (now (nodes .entry)) (now (tags .entry)) (now (slots .entry)) (now (sections .entry)) (now (tail .entry)) ⌝ }
+    ensures { λ r. ⌜ across r (now (nodes .exit)) (now (tags .exit)) (now (slots .exit)) (now (sections .exit)) (now (tail .exit)) ≡ curveAcross (buffers (now (nodes .entry)) (now (tags .entry)) (now (slots .entry))) (now (sections .entry)) (now (tail .entry)) (growOutcome (now (knots .entry)) (now (averages .entry)) (new quadraticity monotonicity positive) localisation «final_size» (previousOf grown «previous_sections» «previous_held») (now («previous_tags» .entry)) (now («previous_slots» .entry)) (buffers (now (nodes .entry)) (now (tags .entry)) (now (slots .entry)))) ⌝ }
 {
     let method = ConvexMonotone::new(quadraticity, monotonicity, positive);
     let previous = previous_of(grown, previous_sections, previous_held);

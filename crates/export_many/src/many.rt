@@ -1,12 +1,11 @@
 // Prices and running totals at many points of one curve, which is checked once.
-use query::asked::curve_with;
+use query::answer::curve_with;
 ghost use mathlib.Core.Path.{_≡_};
-ghost use lib.ListN.{length};
+ghost use Rattle.numbers.specs.OneOutcome.{pair};
 ghost use Rattle.section.specs.Section.{value, primitive};
-ghost use Rattle.assembly.specs.Making.{left};
-ghost use Rattle.query.specs.Many.{manyVerdict, answersAfter};
+ghost use Rattle.query.specs.Many.{manyOutcome};
 ghost use Rattle.query.specs.Query.{curveWith};
-ghost use Rattle.refusal.specs.Refusal.{verdictNumber};
+ghost use Rattle.export_many.specs.Many.{numbered};
 
 // The price at each x, into the first entries of `answers`; where any x is refused, so are all, and nothing is written.
 #[no_mangle]
@@ -21,8 +20,7 @@ pub extern "C" fn havgrunel_values(
     xs: &[f64],
     answers: &mut [f64],
 ) -> u8
-    ensures refusal { λ r. ⌜ r ≡ verdictNumber (manyVerdict (now (knots .entry)) (curveWith «tail_value» «tail_total» «tail_from» extrapolate) (now (tags .entry)) (now (slots .entry)) (now (xs .entry)) (length (now (answers .entry)))) ⌝ }
-    ensures answers { λ _. ⌜ now (answers .exit) ≡ left (manyVerdict (now (knots .entry)) (curveWith «tail_value» «tail_total» «tail_from» extrapolate) (now (tags .entry)) (now (slots .entry)) (now (xs .entry)) (length (now (answers .entry)))) (answersAfter value (now (knots .entry)) (curveWith «tail_value» «tail_total» «tail_from» extrapolate) (now (tags .entry)) (now (slots .entry)) (now (xs .entry)) (now (answers .entry))) (now (answers .entry)) ⌝ }
+    ensures { λ r. ⌜ pair r (now (answers .exit)) ≡ numbered (manyOutcome value (now (knots .entry)) (curveWith «tail_value» «tail_total» «tail_from» extrapolate) (now (tags .entry)) (now (slots .entry)) (now (xs .entry)) (now (answers .entry))) ⌝ }
 {
     let curve = curve_with(tail_value, tail_total, tail_from, extrapolate);
     query::many::values(knots, curve, tags, slots, xs, answers).number()
@@ -41,8 +39,7 @@ pub extern "C" fn havgrunel_primitives(
     xs: &[f64],
     answers: &mut [f64],
 ) -> u8
-    ensures refusal { λ r. ⌜ r ≡ verdictNumber (manyVerdict (now (knots .entry)) (curveWith «tail_value» «tail_total» «tail_from» extrapolate) (now (tags .entry)) (now (slots .entry)) (now (xs .entry)) (length (now (answers .entry)))) ⌝ }
-    ensures answers { λ _. ⌜ now (answers .exit) ≡ left (manyVerdict (now (knots .entry)) (curveWith «tail_value» «tail_total» «tail_from» extrapolate) (now (tags .entry)) (now (slots .entry)) (now (xs .entry)) (length (now (answers .entry)))) (answersAfter primitive (now (knots .entry)) (curveWith «tail_value» «tail_total» «tail_from» extrapolate) (now (tags .entry)) (now (slots .entry)) (now (xs .entry)) (now (answers .entry))) (now (answers .entry)) ⌝ }
+    ensures { λ r. ⌜ pair r (now (answers .exit)) ≡ numbered (manyOutcome primitive (now (knots .entry)) (curveWith «tail_value» «tail_total» «tail_from» extrapolate) (now (tags .entry)) (now (slots .entry)) (now (xs .entry)) (now (answers .entry))) ⌝ }
 {
     let curve = curve_with(tail_value, tail_total, tail_from, extrapolate);
     query::many::primitives(knots, curve, tags, slots, xs, answers).number()

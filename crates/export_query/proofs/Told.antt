@@ -1,33 +1,30 @@
--- What is told of a query's answer, case by case.
+-- What is said of a query's answer, case by case.
 use Prim.Native.Nat.{ℕ}
-use mathlib.Core.Bool.{Bool, true, false}
+use mathlib.Core.Bool.{true, false}
 use mathlib.Core.List.{List}
-use mathlib.Core.Path.{_≡_}
+use mathlib.Core.Path.{_≡_, ap, _∙_}
+use lib.Dec.{ltb}
 use lib.Ieee.{Float}
-use lib.ListN.{set}
+use lib.ListN.{length, set}
+use Rattle.numbers.specs.OneOutcome.{pair}
 use Rattle.refusal.specs.Refusal.{number}
 use Rattle.refusal.specs.declared.Refusal.{Refusal}
 use Rattle.refusal.specs.declared.Refusal.the-variants.{BufferTooShort}
-use Rattle.query.specs.Query.{toldNumber}
-use Rattle.query.specs.declared.asked.Asked.{Asked}
-use Rattle.query.specs.declared.asked.Asked.the-variants as asked
-use Rattle.export_query.specs.Asking as asking
+use Rattle.query.specs.declared.answer.QueryAnswer.{QueryAnswer}
+use Rattle.query.specs.declared.answer.QueryAnswer.the-variants as query-answer
+use Rattle.export_query.specs.Asking.{answerInto}
 
 -- a query's answer: refused, refused for want of room, or written
-pub query-refused : (short : Bool) (k : Asked) (r : Refusal) (n : ℕ) (old : List Float) → k ≡ asked.Refused r → n ≡ number r →
-    (n ≡ toldNumber (asking.roomed short k) .refusal) × (old ≡ asking.numberLeft (asking.roomed short k) old)
-query-refused short k r n old e f = (rw (e, f), rw e)
+module _ (k : QueryAnswer) (old : List Float) where
+  pub query-refused : (r : Refusal) (n : ℕ) → k ≡ query-answer.Refused r → n ≡ number r → pair n old ≡ answerInto k old
+  query-refused r n e f = rw (e, f)
 
-pub query-short : (short : Bool) (k : Asked) (v : Float) (n : ℕ) (old : List Float) → short ≡ true → k ≡ asked.Number v → n ≡ number BufferTooShort →
-    (n ≡ toldNumber (asking.roomed short k) .refusal) × (old ≡ asking.numberLeft (asking.roomed short k) old)
-query-short short k v n old h e f = (rw (e, h, f), rw (e, h))
+  pub query-short : (v : Float) (n : ℕ) → ltb (length old) 1 ≡ true → k ≡ query-answer.Number v → n ≡ number BufferTooShort → pair n old ≡ answerInto k old
+  query-short v n h e f = rw (e, h, f)
 
-pub query-written : (short : Bool) (k : Asked) (v : Float) (old : List Float) → short ≡ false → k ≡ asked.Number v →
-    (_≡_ {A = ℕ} 0 (toldNumber (asking.roomed short k) .refusal)) × (set old 0 v ≡ asking.numberLeft (asking.roomed short k) old)
-query-written short k v old h e = (rw (e, h), rw (e, h))
+  pub query-written : (v : Float) → ltb (length old) 1 ≡ false → k ≡ query-answer.Number v → pair 0 (set old 0 v) ≡ answerInto k old
+  query-written v h e = rw (e, h)
 
--- what is told of an answer is told of its definition
-pub query-told : (short : Bool) (j k : Asked) (n : ℕ) (new old : List Float) → j ≡ k →
-    (n ≡ toldNumber (asking.roomed short j) .refusal) × (new ≡ asking.numberLeft (asking.roomed short j) old) →
-    (n ≡ toldNumber (asking.roomed short k) .refusal) × (new ≡ asking.numberLeft (asking.roomed short k) old)
-query-told short j k n new old e p = (rw e at (p .0), rw e at (p .1))
+-- what is said of an answer is said of its definition
+pub query-told : (j k : QueryAnswer) (old : List Float) (o : ℕ × List Float) → j ≡ k → o ≡ answerInto j old → o ≡ answerInto k old
+query-told j k old o e p = p ∙ ap (λ (i : QueryAnswer). answerInto i old) e

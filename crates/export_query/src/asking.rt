@@ -1,23 +1,21 @@
 // Prices and running totals of a curve that was built.
-use query::asked::Asked;
-use query::asked::curve_with;
+use query::answer::QueryAnswer;
+use query::answer::curve_with;
 use refusal::Refusal;
 ghost use mathlib.Core.Path.{_≡_};
-ghost use lib.Dec.{ltb};
-ghost use lib.ListN.{length};
+ghost use Rattle.numbers.specs.OneOutcome.{pair};
 ghost use Rattle.section.specs.Section.{value, primitive};
 ghost use Rattle.refusal.specs.Refusal.{number};
-ghost use Rattle.query.specs.Query.{ask, coveredAt, curveWith, toldNumber};
-ghost use Rattle.export_query.specs.Asking.{roomed, numberLeft};
+ghost use Rattle.query.specs.Query.{ask, coveredAt, curveWith};
+ghost use Rattle.export_query.specs.Asking.{answerInto};
 
 // An answer in numbers, written where there is room for it.
-fn tell(asked: Asked, answer: &mut [f64]) -> u8
-    ensures refusal { λ r. ⌜ r ≡ toldNumber (roomed (ltb (length (now (answer .entry))) 1) asked) .refusal ⌝ }
-    ensures answer { λ _. ⌜ now (answer .exit) ≡ numberLeft (roomed (ltb (length (now (answer .entry))) 1) asked) (now (answer .entry)) ⌝ }
+fn tell(asked: QueryAnswer, answer: &mut [f64]) -> u8
+    ensures { λ r. ⌜ pair r (now (answer .exit)) ≡ answerInto asked (now (answer .entry)) ⌝ }
 {
     match asked {
-        Asked::Refused(refusal) => refusal.number(),
-        Asked::Number(number) => {
+        QueryAnswer::Refused(refusal) => refusal.number(),
+        QueryAnswer::Number(number) => {
             if answer.len() < 1 {
                 return Refusal::BufferTooShort.number();
             }
@@ -40,8 +38,7 @@ pub extern "C" fn havgrunel_value(
     x: f64,
     answer: &mut [f64],
 ) -> u8
-    ensures refusal { λ r. ⌜ r ≡ toldNumber (roomed (ltb (length (now (answer .entry))) 1) (ask (λ s. value s x) (coveredAt (now (knots .entry)) (curveWith «tail_value» «tail_total» «tail_from» extrapolate) (now (tags .entry)) (now (slots .entry)) x))) .refusal ⌝ }
-    ensures answer { λ _. ⌜ now (answer .exit) ≡ numberLeft (roomed (ltb (length (now (answer .entry))) 1) (ask (λ s. value s x) (coveredAt (now (knots .entry)) (curveWith «tail_value» «tail_total» «tail_from» extrapolate) (now (tags .entry)) (now (slots .entry)) x))) (now (answer .entry)) ⌝ }
+    ensures { λ r. ⌜ pair r (now (answer .exit)) ≡ answerInto (ask (λ s. value s x) (coveredAt (now (knots .entry)) (curveWith «tail_value» «tail_total» «tail_from» extrapolate) (now (tags .entry)) (now (slots .entry)) x)) (now (answer .entry)) ⌝ }
 {
     let curve = curve_with(tail_value, tail_total, tail_from, extrapolate);
     tell(query::single::value(knots, curve, tags, slots, x), answer)
@@ -60,8 +57,7 @@ pub extern "C" fn havgrunel_primitive(
     x: f64,
     answer: &mut [f64],
 ) -> u8
-    ensures refusal { λ r. ⌜ r ≡ toldNumber (roomed (ltb (length (now (answer .entry))) 1) (ask (λ s. primitive s x) (coveredAt (now (knots .entry)) (curveWith «tail_value» «tail_total» «tail_from» extrapolate) (now (tags .entry)) (now (slots .entry)) x))) .refusal ⌝ }
-    ensures answer { λ _. ⌜ now (answer .exit) ≡ numberLeft (roomed (ltb (length (now (answer .entry))) 1) (ask (λ s. primitive s x) (coveredAt (now (knots .entry)) (curveWith «tail_value» «tail_total» «tail_from» extrapolate) (now (tags .entry)) (now (slots .entry)) x))) (now (answer .entry)) ⌝ }
+    ensures { λ r. ⌜ pair r (now (answer .exit)) ≡ answerInto (ask (λ s. primitive s x) (coveredAt (now (knots .entry)) (curveWith «tail_value» «tail_total» «tail_from» extrapolate) (now (tags .entry)) (now (slots .entry)) x)) (now (answer .entry)) ⌝ }
 {
     let curve = curve_with(tail_value, tail_total, tail_from, extrapolate);
     tell(
@@ -75,5 +71,5 @@ pub extern "C" fn havgrunel_primitive(
 pub extern "C" fn havgrunel_derivative(x: f64) -> u8
     ensures { λ r. ⌜ r ≡ number Refusal.DerivativeAsked ⌝ }
 {
-    query::asked::derivative(x).told().refusal
+    query::answer::derivative(x).told().refusal
 }

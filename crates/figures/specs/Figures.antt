@@ -1,22 +1,23 @@
 -- 01, Figures to agree with: p1 to p10 in one table. A row has the figure's number, what the definitions give that the contracts cite, and what the document says;
 -- floats by their bits.
-use Prim.Native.Nat.{ℕ, zero, suc, _+_}
+use Prim.Native.Nat as nat
+use Prim.Native.Nat.{ℕ, suc, _+_, _*_}
 use mathlib.Core.Bool.{Bool, true, false, cond, _&&_}
 use mathlib.Core.List.{List, [], _∷_}
 use lib.Dec.{eqb}
 use lib.Ieee.{Float, nan, binary64, ofBits, toBits, neg}
 use lib.ListN.{length, getD, replicate}
-use Rattle.numbers.specs.Words.{nought, half, one, two, three, four, sevenTenths}
+use Rattle.numbers.specs.Sizes.{slotCount}
+use Rattle.numbers.specs.Words.{zero, half, one, two, three, four, sevenTenths}
 use Rattle.root.specs.Root.{root}
 use Rattle.quadratic.specs.QuadraticMin as quadmin
 use Rattle.quadratic.specs.declared.quadratic_min.QuadraticMin.{QuadraticMin}
 use Rattle.section.specs.Section as section
 use Rattle.section.specs.declared.section.Section.{Section}
-use Rattle.refusal.specs.Refusal.{number}
+use Rattle.refusal.specs.Refusal.{verdictNumber}
 use Rattle.record.specs.Slots.{slotsOf}
 use Rattle.record.specs.Tag.{tagOf}
-use Rattle.refusal.specs.declared.Verdict.{Verdict}
-use Rattle.refusal.specs.declared.Verdict.the-variants as verdict
+use Rattle.table.specs.Buffers.{Buffers, Outcome, buffers}
 use Rattle.table.specs.Method as method
 use Rattle.table.specs.declared.ends.End.the-variants as end
 use Rattle.table.specs.declared.ends.Seam.{Seam}
@@ -24,14 +25,14 @@ use Rattle.table.specs.declared.ends.Seam.the-variants as seam
 use Rattle.table.specs.declared.method.ConvexMonotone.{ConvexMonotone}
 use Rattle.choice.specs.declared.period.Period.{Period}
 use Rattle.choice.specs.Choice.{sectionOf}
-use Rattle.curve.specs.Build as build
-use Rattle.curve.specs.Build.{buildVerdict, builtOf}
+use Rattle.curve.specs.Build.{buildVerdict, buildOutcome}
 use Rattle.curve.specs.Curve.{toldCurve, withExtrapolation}
 use Rattle.query.specs.Query.{placeOf, coveredAt, ask, toldNumber}
+use Rattle.curve.specs.declared.curve.Built.{Built}
 use Rattle.curve.specs.declared.curve.Curve.{Curve}
 use Rattle.curve.specs.declared.curve.ToldCurve.{ToldCurve}
-use Rattle.query.specs.declared.asked.ToldNumber.{ToldNumber}
-use Rattle.sheets.specs.Sheet as sheet
+use Rattle.query.specs.declared.answer.ToldNumber.{ToldNumber}
+use Rattle.sheets.specs.Sheet.{sheetOutcome}
 
 pub record Row : Type 0 where
   pub figure : ℕ
@@ -59,32 +60,25 @@ seven = ofBits binary64 0x401c_0000_0000_0000
 abbrev nine : Float
 nine = ofBits binary64 0x4022_0000_0000_0000
 
-abbrev refusalOf : Verdict → ℕ
-refusalOf verdict.Accepted = 0
-refusalOf (verdict.Refused r) = number r
-
 -- a table built into buffers of zeros, with no held period
 module _ (x y : List Float) (m : ConvexMonotone) where
-  abbrev nodes : List Float
-  nodes = replicate (length x) nought
+  abbrev lent : Buffers
+  lent = buffers (replicate (length x) zero) (replicate (length x) 0) (replicate (2 * slotCount) zero)
 
-  abbrev tags : List ℕ
-  tags = replicate (length x) 0
-
-  abbrev slots : List Float
-  slots = replicate 48 nought
+  abbrev made : Outcome Built
+  made = buildOutcome x y m false seam.Absent lent
 
   abbrev nodesOf : List Float
-  nodesOf = build.nodesLeft x y m false seam.Absent nodes tags slots
+  nodesOf = made .buffers .nodes
 
   abbrev tagsOf : List ℕ
-  tagsOf = build.tagsLeft x y m false seam.Absent nodes tags slots
+  tagsOf = made .buffers .tags
 
   abbrev slotsIn : List Float
-  slotsIn = build.slotsLeft x y m false seam.Absent nodes tags slots
+  slotsIn = made .buffers .slots
 
   abbrev told : ToldCurve
-  told = toldCurve (builtOf x y m false seam.Absent nodes tags slots)
+  told = toldCurve (made .answer)
 
   abbrev curve : Bool → Curve
   curve allow = record { sections = told .sections; held = false; extrapolates = allow; tail = told .tail }
@@ -93,50 +87,45 @@ module _ (x y : List Float) (m : ConvexMonotone) where
   valueAt allow q = toldNumber (ask (λ s. section.value s q) (coveredAt x (curve allow) tagsOf slotsIn q))
 
   abbrev numberWith : Seam → ℕ
-  numberWith s = refusalOf (buildVerdict x y m s nodes tags slots)
+  numberWith s = verdictNumber (buildVerdict x y m s lent)
 
 -- p1
 abbrev x1 : List Float
-x1 = nought ∷ two ∷ []
+x1 = zero ∷ two ∷ []
 
 abbrev y1 : List Float
 y1 = nine ∷ two ∷ []
 
 -- p2
 abbrev x2 : List Float
-x2 = nought ∷ one ∷ two ∷ []
+x2 = zero ∷ one ∷ two ∷ []
 
 abbrev y2 : List Float
-y2 = nought ∷ one ∷ three ∷ []
+y2 = zero ∷ one ∷ three ∷ []
 
 abbrev m2 : ConvexMonotone
-m2 = method.new nought one false
+m2 = method.new zero one false
 
 -- p4: two sheets, one after the other, into buffers of zeros
+abbrev inTwoSheets : Buffers
+inTwoSheets =
+    let first = sheetOutcome (zero ∷ one ∷ []) (zero ∷ one ∷ []) m2 end.Free (end.Given two) zero 0 (lent x2 y2 m2) in
+    sheetOutcome (one ∷ two ∷ []) (one ∷ three ∷ []) m2 (end.Given two) end.Free one 1 (first .buffers) .buffers
+
 abbrev sheetNodes : List Float
-sheetNodes =
-    let n = replicate 3 nought in
-    let t = replicate {A = ℕ} 3 0 in
-    let s = replicate 48 nought in
-    sheet.nodesLeft (one ∷ two ∷ []) (one ∷ three ∷ []) m2 (end.Given two) end.Free one 1
-    (sheet.nodesLeft (nought ∷ one ∷ []) (nought ∷ one ∷ []) m2 end.Free (end.Given two) nought 0 n t s) t s
+sheetNodes = inTwoSheets .nodes
 
 abbrev sheetSlots : List Float
-sheetSlots =
-    let n = replicate 3 nought in
-    let t = replicate {A = ℕ} 3 0 in
-    let s = replicate 48 nought in
-    sheet.slotsLeft (one ∷ two ∷ []) (one ∷ three ∷ []) m2 (end.Given two) end.Free one 1 n t
-    (sheet.slotsLeft (nought ∷ one ∷ []) (nought ∷ one ∷ []) m2 end.Free (end.Given two) nought 0 n t s)
+sheetSlots = inTwoSheets .slots
 
 -- how many of the first n entries are the same
 unfoldable pub same : ℕ → List Float → List Float → ℕ
-same zero a b = 0
+same nat.zero a b = 0
 same (suc n) a b = cond (eqb (bits (getD a n nan)) (bits (getD b n nan))) 1 0 + same n a b
 
 -- p5 and p6: on 0..1, ends 4 and 1
 abbrev fallsTo : Float → QuadraticMin
-fallsTo average = quadmin.new nought one four one average nought
+fallsTo average = quadmin.new zero one four one average zero
 
 abbrev flag : Bool → ℕ
 flag b = cond b 1 0
@@ -144,14 +133,14 @@ flag b = cond b 1 0
 -- p7 and p8: on 0..1, by the nodes and the average
 abbrev chosen : ConvexMonotone → Float → Float → Float → Section
 chosen m before after average =
-    sectionOf m (record { «x_prev» = nought; «x_next» = one; «f_prev» = before; «f_next» = after; «f_average» = average; «prev_primitive» = nought })
+    sectionOf m (record { «x_prev» = zero; «x_next» = one; «f_prev» = before; «f_next» = after; «f_average» = average; «prev_primitive» = zero })
 
 abbrev slotOf : Section → ℕ → ℕ
 slotOf s k = bits (getD (slotsOf s) k nan)
 
 abbrev pub table : List Row
 table =
-    row 1 (getD (tagsOf x1 y1 (method.new nought nought false)) 0 0) 0x0100
+    row 1 (getD (tagsOf x1 y1 (method.new zero zero false)) 0 0) 0x0100
     ∷ row 2 (bits (getD (nodesOf x2 y2 m2) 0 nan)) 0x3fe0_0000_0000_0000
     ∷ row 2 (bits (getD (nodesOf x2 y2 m2) 1 nan)) 0x4000_0000_0000_0000
     ∷ row 2 (bits (getD (nodesOf x2 y2 m2) 2 nan)) 0x400c_0000_0000_0000
@@ -166,19 +155,19 @@ table =
     ∷ row 3 (valueAt x2 y2 m2 false (neg one) .refusal) 13
     ∷ row 3 (bits (valueAt x2 y2 m2 true (neg one) .answer)) 0x4000_0000_0000_0000
     ∷ row 4 (same 3 sheetNodes (nodesOf x2 y2 m2)) 3
-    ∷ row 4 (same 48 sheetSlots (slotsIn x2 y2 m2)) 48
+    ∷ row 4 (same (2 * slotCount) sheetSlots (slotsIn x2 y2 m2)) (2 * slotCount)
     ∷ row 5 (bits (quadmin.value (fallsTo half) quarter)) 0x3fd0_0000_0000_0000
     ∷ row 5 (bits (quadmin.value (fallsTo half) half)) 0x0000_0000_0000_0000
     ∷ row 5 (bits (quadmin.value (fallsTo half) one)) 0x3ff0_0000_0000_0000
     ∷ row 6 (flag (fallsTo three .«split_region»)) 1
     ∷ row 6 (bits (fallsTo three .«x_ratio»)) 0x4008_0000_0000_0000
     ∷ row 6 (bits (quadmin.value (fallsTo three) threeQuarters)) 0x3ff9_0000_0000_0000
-    ∷ row 7 (tagOf (chosen (method.new nought sevenTenths false) one seven two)) 0x0300
-    ∷ row 7 (slotOf (chosen (method.new nought sevenTenths false) one seven two) 18) 0x3fe0_0000_0000_0000
-    ∷ row 7 (bits (section.value (chosen (method.new nought sevenTenths false) one seven two) threeQuarters)) 0x4004_0000_0000_0000
-    ∷ row 7 (tagOf (chosen (method.new nought nought false) one seven two)) 0x0500
+    ∷ row 7 (tagOf (chosen (method.new zero sevenTenths false) one seven two)) 0x0300
+    ∷ row 7 (slotOf (chosen (method.new zero sevenTenths false) one seven two) 18) 0x3fe0_0000_0000_0000
+    ∷ row 7 (bits (section.value (chosen (method.new zero sevenTenths false) one seven two) threeQuarters)) 0x4004_0000_0000_0000
+    ∷ row 7 (tagOf (chosen (method.new zero zero false) one seven two)) 0x0500
     ∷ row 8 (slotOf (chosen m2 two one one) 18) 0x0000_0000_0000_0000
-    ∷ row 8 (bits (section.value (chosen m2 two one one) nought)) 0x7ff8_0000_0000_0000
+    ∷ row 8 (bits (section.value (chosen m2 two one one) zero)) 0x7ff8_0000_0000_0000
     ∷ row 9 (bits (root (ofBits binary64 0x40a2_0000_0000_0000))) 0x4048_0000_0000_0000
     ∷ row 9 (bits (root (ofBits binary64 0x4000_0000_0000_0000))) 0x3ff6_a09e_667f_3bcd
     ∷ row 9 (bits (root (ofBits binary64 0x0000_0000_0000_0001))) 0x1e60_0000_0000_0000

@@ -9,6 +9,7 @@ use borrow.Author.Tests.{eq-eqb, ne-eqb, ltb-false}
 use lib.Dec.{eqb, ltb}
 use lib.Ieee.{Float}
 use lib.ListN.{length, take, drop, getD}
+use Rattle.numbers.specs.Sizes.{slotCount}
 use Rattle.numbers.proofs.Ways.{or-none, lt-or-le}
 use Rattle.section.specs.Section.{«f_next»}
 use Rattle.section.specs.declared.section.Section.{Section}
@@ -17,9 +18,10 @@ use Rattle.record.specs.declared.reading.Found.{Found}
 use Rattle.record.specs.declared.reading.Found.the-variants as found
 use Rattle.refusal.specs.declared.Refusal.{Refusal}
 use Rattle.refusal.specs.declared.Refusal.the-variants.{NoPreviousCurve, RecordNotLegal}
+use Rattle.table.specs.Buffers.{Buffers, Outcome}
 use Rattle.table.specs.declared.ends.Seam.{Seam}
 use Rattle.table.specs.declared.ends.Seam.the-variants as seam
-use Rattle.growth.specs.Growth.{firstWindow, seamAfter, beyond, seamOf, carriedAt, grown, grownLeft}
+use Rattle.growth.specs.Growth.{firstWindow, seamAfter, beyond, seamOf, carriedAt, grown}
 use Rattle.curve.specs.declared.curve.Curve.{Curve}
 use Rattle.curve.specs.declared.curve.Built.{Built}
 use Rattle.curve.specs.declared.curve.Built.the-variants as built
@@ -46,13 +48,13 @@ same-window n l p =
 pub record Holds (sections tags slots : ℕ) : Type 0 where
   pub few : sections ≤ 4095
   pub in-tags : sections ≤ tags
-  pub in-slots : 24 * sections ≤ slots
+  pub in-slots : slotCount * sections ≤ slots
 
 pub holds-all : (n tags slots : ℕ) → beyond n tags slots ≡ false → Holds n tags slots
 holds-all n tags slots h =
-    let r = or-none (ltb 4095 n) (ltb tags n || ltb slots (24 * n)) h in
-    let q = or-none (ltb tags n) (ltb slots (24 * n)) (r .1) in
-    record { few = ltb-false 4095 n (r .0); in-tags = ltb-false tags n (q .0); in-slots = ltb-false slots (24 * n) (q .1) }
+    let r = or-none (ltb 4095 n) (ltb tags n || ltb slots (slotCount * n)) h in
+    let q = or-none (ltb tags n) (ltb slots (slotCount * n)) (r .1) in
+    record { few = ltb-false 4095 n (r .0); in-tags = ltb-false tags n (q .0); in-slots = ltb-false slots (slotCount * n) (q .1) }
 
 -- the record of the last section that is kept
 module _ (count : ℕ) (tags : List ℕ) (slots : List Float) where
@@ -60,12 +62,12 @@ module _ (count : ℕ) (tags : List ℕ) (slots : List Float) where
   unfolding seamAfter
   after-none h = simp (eq-eqb count 0 h)
 
-  pub after-section : (s : Section) (v : Float) → (count ≡ 0 → ⊥) → readSection (getD tags (count - 1) 0) (take 24 (drop (24 * (count - 1)) slots)) ≡ found.Section s →
+  pub after-section : (s : Section) (v : Float) → (count ≡ 0 → ⊥) → readSection (getD tags (count - 1) 0) (take slotCount (drop (slotCount * (count - 1)) slots)) ≡ found.Section s →
       v ≡ «f_next» s → carried.Seam (seam.At count v) ≡ seamAfter count tags slots
   unfolding seamAfter
   after-section s v p e f = simp (ne-eqb count 0 p) (rw (e, f))
 
-  pub after-illegal : (count ≡ 0 → ⊥) → readSection (getD tags (count - 1) 0) (take 24 (drop (24 * (count - 1)) slots)) ≡ found.Illegal →
+  pub after-illegal : (count ≡ 0 → ⊥) → readSection (getD tags (count - 1) 0) (take slotCount (drop (slotCount * (count - 1)) slots)) ≡ found.Illegal →
       carried.Refused RecordNotLegal ≡ seamAfter count tags slots
   unfolding seamAfter
   after-illegal p e = simp (ne-eqb count 0 p) (rw e)
@@ -99,15 +101,9 @@ module _ (n l : ℕ) (p : Previous) (tags : List ℕ) (slots : List Float) where
   pub past-curve : (c : Curve) (k : Carried) → firstWindow n l ≡ false → p ≡ previous.Curve c → k ≡ seamOf c tags slots → k ≡ carriedAt n l p tags slots
   past-curve c k h e f = rw (h, e) f
 
--- an answer and a buffer, by what is carried
-pub not-grown : (k : Carried) (r : Refusal) (f : Seam → Built) → k ≡ carried.Refused r → built.Refused r ≡ grown k f
-not-grown k r f e = rw e
+-- an outcome, by what is carried
+pub not-grown : (k : Carried) (r : Refusal) (old : Buffers) (f : Seam → Outcome Built) → k ≡ carried.Refused r → record { answer = built.Refused r; buffers = old } ≡ grown k old f
+not-grown k r old f e = rw e
 
-pub not-written : {A : Type 0} (k : Carried) (r : Refusal) (f : Seam → List A) (old : List A) → k ≡ carried.Refused r → old ≡ grownLeft k f old
-not-written k r f old e = rw e
-
-pub is-grown : (k : Carried) (s : Seam) (f : Seam → Built) (b : Built) → k ≡ carried.Seam s → b ≡ f s → b ≡ grown k f
-is-grown k s f b e g = rw e g
-
-pub is-written : {A : Type 0} (k : Carried) (s : Seam) (f : Seam → List A) (new old : List A) → k ≡ carried.Seam s → new ≡ f s → new ≡ grownLeft k f old
-is-written k s f new old e g = rw e g
+pub is-grown : (k : Carried) (s : Seam) (old : Buffers) (f : Seam → Outcome Built) (o : Outcome Built) → k ≡ carried.Seam s → o ≡ f s → o ≡ grown k old f
+is-grown k s old f o e g = rw e g

@@ -11,8 +11,11 @@ use Rattle.numbers.specs.Sizes.{slotCount}
 use Rattle.record.specs.declared.reading.Found.{Found}
 use Rattle.record.specs.declared.reading.Found.the-variants as found
 use Rattle.refusal.specs.declared.Refusal.the-variants.{NoPreviousCurve, RecordNotLegal}
+use Rattle.table.specs.Buffers.{Buffers, Outcome}
+use Rattle.table.specs.declared.method.ConvexMonotone.{ConvexMonotone}
 use Rattle.table.specs.declared.ends.Seam.{Seam}
 use Rattle.table.specs.declared.ends.Seam.the-variants as seam
+use Rattle.curve.specs.Build.{buildOutcome}
 use Rattle.curve.specs.declared.curve.Curve.{Curve}
 use Rattle.curve.specs.declared.curve.Built.{Built}
 use Rattle.curve.specs.declared.curve.Built.the-variants as built
@@ -55,15 +58,16 @@ seamOfPrevious (previous.Curve curve) tags slots = seamOf curve tags slots
 abbrev pub carriedAt : ℕ → ℕ → Previous → List ℕ → List Float → Carried
 carriedAt points localisation p tags slots = cond (firstWindow points localisation) (carried.Seam seam.Absent) (seamOfPrevious p tags slots)
 
--- what is made with the seam that is carried, or the refusal; and what is left in a lent buffer
-abbrev pub grown : Carried → (Seam → Built) → Built
-grown (carried.Seam s) build = build s
-grown (carried.Refused r) build = built.Refused r
-
-abbrev pub grownLeft : {A : Type 0} → Carried → (Seam → List A) → List A → List A
-grownLeft (carried.Seam s) new old = new s
-grownLeft (carried.Refused r) new old = old
-
 -- the last period is held until the table has its last point
 abbrev pub holds : ℕ → ℕ → Bool
 holds points final = not (eqb points final)
+
+-- what is built with the seam that is carried; or the refusal, with the buffers as they were
+abbrev pub grown : Carried → Buffers → (Seam → Outcome Built) → Outcome Built
+grown (carried.Seam s) old build = build s
+grown (carried.Refused r) old build = record { answer = built.Refused r; buffers = old }
+
+-- what `grow` answers, and the buffers as it leaves them
+abbrev pub growOutcome : List Float → List Float → ConvexMonotone → ℕ → ℕ → Previous → List ℕ → List Float → Buffers → Outcome Built
+growOutcome x y method localisation final p oldTags oldSlots b =
+    grown (carriedAt (length x) localisation p oldTags oldSlots) b (λ s. buildOutcome x y method (holds (length x) final) s b)

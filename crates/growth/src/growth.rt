@@ -9,12 +9,11 @@ use refusal::Refusal;
 use table::ends::Seam;
 use table::method::ConvexMonotone;
 ghost use mathlib.Core.Path.{_≡_};
-ghost use mathlib.Core.Bool.{_||_};
 ghost use Prim.Native.Nat.{_+_, _-_, _*_, _≤_, _<_};
-ghost use lib.Dec.{eqb};
 ghost use lib.ListN.{length};
-ghost use Rattle.curve.specs.Build.{builtOf, nodesLeft, tagsLeft, slotsLeft};
-ghost use Rattle.growth.specs.Growth.{firstWindow, retained, seamAfter, beyond, seamOf, carriedAt, grown, grownLeft, holds};
+ghost use Rattle.numbers.specs.Sizes.{slotCount};
+ghost use Rattle.table.specs.Buffers.{buffers, outcome};
+ghost use Rattle.growth.specs.Growth.{firstWindow, retained, seamAfter, beyond, seamOf, carriedAt, growOutcome};
 
 // The curve that a table grows from. Its tags and slots are lent beside it.
 pub enum Previous {
@@ -51,7 +50,7 @@ fn is_beyond(sections: usize, tags: usize, slots: usize) -> bool
 }
 
 fn seam_after(count: usize, tags: &[u16], slots: &[f64]) -> Carried
-    requires { ⌜ (count ≤ 4095) × (count ≤ length (now tags)) × (24 * count ≤ length (now slots)) ⌝ }
+    requires { ⌜ (count ≤ 4095) × (count ≤ length (now tags)) × (slotCount * count ≤ length (now slots)) ⌝ }
     ensures { λ r. ⌜ r ≡ seamAfter count (now (tags .entry)) (now (slots .entry)) ⌝ }
 {
     if count == 0 {
@@ -115,10 +114,7 @@ pub fn grow(
     tags: &mut [u16],
     slots: &mut [f64],
 ) -> Built
-    ensures built { λ r. ⌜ r ≡ grown (carriedAt (length (now (xs .entry))) localisation previous (now («previous_tags» .entry)) (now («previous_slots» .entry))) (λ s. builtOf (now (xs .entry)) (now (ys .entry)) method (holds (length (now (xs .entry))) «final_size») s (now (nodes .entry)) (now (tags .entry)) (now (slots .entry))) ⌝ }
-    ensures nodes { λ _. ⌜ now (nodes .exit) ≡ grownLeft (carriedAt (length (now (xs .entry))) localisation previous (now («previous_tags» .entry)) (now («previous_slots» .entry))) (λ s. nodesLeft (now (xs .entry)) (now (ys .entry)) method (holds (length (now (xs .entry))) «final_size») s (now (nodes .entry)) (now (tags .entry)) (now (slots .entry))) (now (nodes .entry)) ⌝ }
-    ensures tags { λ _. ⌜ now (tags .exit) ≡ grownLeft (carriedAt (length (now (xs .entry))) localisation previous (now («previous_tags» .entry)) (now («previous_slots» .entry))) (λ s. tagsLeft (now (xs .entry)) (now (ys .entry)) method (holds (length (now (xs .entry))) «final_size») s (now (nodes .entry)) (now (tags .entry)) (now (slots .entry))) (now (tags .entry)) ⌝ }
-    ensures slots { λ _. ⌜ now (slots .exit) ≡ grownLeft (carriedAt (length (now (xs .entry))) localisation previous (now («previous_tags» .entry)) (now («previous_slots» .entry))) (λ s. slotsLeft (now (xs .entry)) (now (ys .entry)) method (holds (length (now (xs .entry))) «final_size») s (now (nodes .entry)) (now (tags .entry)) (now (slots .entry))) (now (slots .entry)) ⌝ }
+    ensures { λ r. ⌜ outcome r (now (nodes .exit)) (now (tags .exit)) (now (slots .exit)) ≡ growOutcome (now (xs .entry)) (now (ys .entry)) method localisation «final_size» previous (now («previous_tags» .entry)) (now («previous_slots» .entry)) (buffers (now (nodes .entry)) (now (tags .entry)) (now (slots .entry))) ⌝ }
 {
     match carry(
         xs.len(),

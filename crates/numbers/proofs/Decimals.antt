@@ -4,13 +4,13 @@ use mathlib.Core.Path.{_≡_, refl}
 use Prim.Native.Nat.{ℕ, _^_}
 use lib.Ieee.{Float, binary64, ofBits, round}
 use lib.Ieee.Exact.{HasValue}
-use Rattle.numbers.specs.Words.{nought, half, one, threeHalves, two, three, four, six, twentyFour, thirtySix, tiny, threeTenths, sevenTenths}
+use Rattle.numbers.specs.Words.{zero, half, one, threeHalves, two, three, four, six, twentyFour, thirtySix, tiny, threeTenths, sevenTenths}
 
 -- x is + a / c, exactly
 abbrev Worth : Float → ℕ → ℕ → Type 0
 Worth x a c = HasValue x false a c
 
-pub exact : Worth nought 0 1 × Worth half 1 2 × Worth one 1 1 × Worth threeHalves 3 2 × Worth two 2 1
+pub exact : Worth zero 0 1 × Worth half 1 2 × Worth one 1 1 × Worth threeHalves 3 2 × Worth two 2 1
     × Worth three 3 1 × Worth four 4 1 × Worth six 6 1 × Worth twentyFour 24 1 × Worth thirtySix 36 1
 unfolding ofBits
 exact = ((refl, refl), (refl, refl), (refl, refl), (refl, refl), (refl, refl), (refl, refl), (refl, refl), (refl, refl), (refl, refl), (refl, refl))

@@ -9,7 +9,7 @@ use borrow.Author.Tests.{le-ltb}
 use lib.Ieee.{Float, nan, inf, fin, binary64, round, sum, add, sub, neg, eq, up, down, ofBits}
 use lib.Ieee.Fits.{down-pos}
 use lib.Ieee.Scale.{round-same}
-use Rattle.numbers.specs.Words.{_⊖_, nought, finite}
+use Rattle.numbers.specs.Words.{_⊖_, zero, finite}
 
 -- nothing rounds to nothing
 pub round-zero : (s : Bool) (c : ℕ) → 0 < c → round binary64 s 0 c ≡ fin s 0 (pos 0)
@@ -22,7 +22,7 @@ unfolding sum
 sum-self true a c h = simp (le-ltb a a (le-refl a), sub-self) (round-zero false c h)
 sum-self false a c h = simp (le-ltb a a (le-refl a), sub-self) (round-zero false c h)
 
-pub finite-test : (x : Float) → eq (x ⊖ x) nought ≡ finite x
+pub finite-test : (x : Float) → eq (x ⊖ x) zero ≡ finite x
 unfolding eq sub add neg ofBits finite
 finite-test nan = refl
 finite-test (inf true) = refl

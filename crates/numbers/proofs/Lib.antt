@@ -4,6 +4,7 @@ pub mod Order
 pub mod Overlay
 pub mod Finite
 pub mod Signs
+pub mod OneOutcome
 pub mod Unique
 pub mod Nan
 pub mod Every

@@ -2,3 +2,4 @@ pub mod Words
 pub mod Overlay
 pub mod Every
 pub mod Sizes
+pub mod OneOutcome

@@ -21,8 +21,8 @@ infixl 65 _⊖_
 infixl 70 _⊗_
 infixl 70 _⊘_
 -- The numbers, as the compiler reads their decimals. `proofs/Decimals.antt` shows what each is worth.
-abbrev pub nought : Float
-nought = ofBits binary64 0x0000_0000_0000_0000
+abbrev pub zero : Float
+zero = ofBits binary64 0x0000_0000_0000_0000
 
 abbrev pub half : Float
 half = ofBits binary64 0x3fe0_0000_0000_0000

@@ -3,43 +3,43 @@ use Prim.Native.Nat.{ℕ}
 use mathlib.Core.Bool.{Bool, true, false}
 use mathlib.Core.Path.{_≡_, refl, sym, ap, _∙_}
 use lib.Ieee.{Float, binary64, ofBits, toBits}
-use Rattle.numbers.specs.Words.{nought}
+use Rattle.numbers.specs.Words.{zero}
 use Rattle.numbers.proofs.Ways.{never}
 use Rattle.section.specs.declared.section.Section.{Section}
 use Rattle.refusal.specs.declared.Refusal.{Refusal}
 use Rattle.query.specs.Query.{ask, toldNumber}
-use Rattle.query.specs.declared.asked.Covered.{Covered}
-use Rattle.query.specs.declared.asked.Covered.the-variants as covered
-use Rattle.query.specs.declared.asked.Asked.{Asked}
-use Rattle.query.specs.declared.asked.Asked.the-variants as asked
+use Rattle.query.specs.declared.answer.Covered.{Covered}
+use Rattle.query.specs.declared.answer.Covered.the-variants as covered
+use Rattle.query.specs.declared.answer.QueryAnswer.{QueryAnswer}
+use Rattle.query.specs.declared.answer.QueryAnswer.the-variants as query-answer
 use Rattle.order.specs.declared.asking.Line.{Line}
 
-abbrev lineFor : Asked → Asked → Line
+abbrev lineFor : QueryAnswer → QueryAnswer → Line
 lineFor v p = record { refusal = toldNumber v .refusal; value = toBits binary64 (toldNumber v .answer); primitive = toBits binary64 (toldNumber p .answer) }
 
-nought-bits : toBits binary64 nought ≡ 0
+zero-bits : toBits binary64 zero ≡ 0
 unfolding toBits ofBits
-nought-bits = refl
+zero-bits = refl
 
-abbrev isNumber : Asked → Bool
-isNumber (asked.Number v) = true
-isNumber (asked.Refused r) = false
+abbrev isNumber : QueryAnswer → Bool
+isNumber (query-answer.Number v) = true
+isNumber (query-answer.Refused r) = false
 
 -- refused: zeros, and the primitive is refused alike
-pub none : (f g : Section → Float) (k : Covered) (v : Asked) (r : Refusal) (n : ℕ) → v ≡ ask f k → v ≡ asked.Refused r → n ≡ toldNumber v .refusal →
+pub none : (f g : Section → Float) (k : Covered) (v : QueryAnswer) (r : Refusal) (n : ℕ) → v ≡ ask f k → v ≡ query-answer.Refused r → n ≡ toldNumber v .refusal →
     record { refusal = n; value = 0; primitive = 0 } ≡ lineFor (ask f k) (ask g k)
 none f g (covered.Section s) v r n e h m = never (ap isNumber e) (ap isNumber h)
-none f g (covered.Refused q) v r n e h m = rw (m, e, nought-bits)
+none f g (covered.Refused q) v r n e h m = rw (m, e, zero-bits)
 
 -- the second is there where the first is
-pub not-second : {A : Type 0} (f g : Section → Float) (k : Covered) (v p : Asked) (a : Float) (r : Refusal) → v ≡ ask f k → p ≡ ask g k → v ≡ asked.Number a → p ≡ asked.Refused r → A
+pub not-second : {A : Type 0} (f g : Section → Float) (k : Covered) (v p : QueryAnswer) (a : Float) (r : Refusal) → v ≡ ask f k → p ≡ ask g k → v ≡ query-answer.Number a → p ≡ query-answer.Refused r → A
 not-second f g (covered.Section s) v p a r e d h i = never (ap isNumber d) (ap isNumber i)
 not-second f g (covered.Refused q) v p a r e d h i = never (ap isNumber h) (ap isNumber e)
 
-abbrev number : Asked → Float
-number (asked.Number v) = v
-number (asked.Refused r) = nought
+abbrev number : QueryAnswer → Float
+number (query-answer.Number v) = v
+number (query-answer.Refused r) = zero
 
-pub both : (f g : Section → Float) (k : Covered) (v p : Asked) (a b : Float) (m n : ℕ) → v ≡ ask f k → p ≡ ask g k → v ≡ asked.Number a → p ≡ asked.Number b →
+pub both : (f g : Section → Float) (k : Covered) (v p : QueryAnswer) (a b : Float) (m n : ℕ) → v ≡ ask f k → p ≡ ask g k → v ≡ query-answer.Number a → p ≡ query-answer.Number b →
     m ≡ toBits binary64 a → n ≡ toBits binary64 b → record { refusal = 0; value = m; primitive = n } ≡ lineFor (ask f k) (ask g k)
 both f g k v p a b m n e d h i em en = rw (em, en, sym e ∙ h, sym d ∙ i)

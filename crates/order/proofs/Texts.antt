@@ -1,18 +1,21 @@
 -- The text from its lines, and a table from an order's bytes.
-use Prim.Native.Nat.{ℕ, zero, suc, _+_, _-_, _*_, _/_, _%_, _≤_, _<_, zero-le}
+use Prim.Native.Nat.{ℕ, zero, suc, _+_, _-_, _*_, _/_, _%_, _≤_, _<_}
 use native.Mathlib.Omega.{arith}
 use native.Mathlib.Nat.{zero-add}
 use native.Mathlib.Numerals.{add-one}
 use mathlib.Core.Bool.{Bool, true, false, cond, _&&_}
 use mathlib.Core.List.{List, [], _∷_, _++_}
-use mathlib.Core.Path.{_≡_, refl, sym, ap, subst, _∙_}
+use mathlib.Core.Path.{_≡_, refl, sym, ap, _∙_}
 use borrow.Author.Tests.{lt-ltb, le-ltb, leb-true, eqb-true}
 use lib.Dec.{ltb, leb, eqb}
 use lib.Ieee.{Float}
 use lib.ListN.{length, getD, set, take, length-set}
 use lib.Seq.{take-suc-set, take-set-le}
+use Rattle.numbers.specs.OneOutcome.{pair}
 use Rattle.numbers.specs.Overlay.{overlay}
 use Rattle.numbers.proofs.Every.{and-split}
+use Rattle.numbers.proofs.OneOutcome.{both}
+use Rattle.numbers.proofs.Ways.{never}
 use Rattle.numbers.proofs.Overlay.{overlay-same, overlay-join, length-overlay}
 use Rattle.refusal.specs.Refusal.{number}
 use Rattle.refusal.specs.declared.Refusal.{Refusal}
@@ -20,7 +23,7 @@ use Rattle.curve.specs.Curve.{withExtrapolation}
 use Rattle.curve.specs.declared.curve.Curve.{Curve}
 use Rattle.curve.specs.declared.curve.Built.{Built}
 use Rattle.curve.specs.declared.curve.Built.the-variants as built
-use Rattle.order.specs.Answer.{lineOf, lineByte, lengthFor, byteFor, ordered, orderedByte, nodes₀, tags₀, slots₀, textLength, textAt, toldOf, outLeft}
+use Rattle.order.specs.Answer.{lineOf, lineByte, lengthFor, byteFor, textFor, ordered, room, textOf, answered}
 use Rattle.order.specs.Form.{numberAt, headerOf, pointsOf, queriesOf, wellFormed, points, queries, hold, allow, method, knots, averages, listOf}
 use Rattle.order.specs.Text.{buildByte, queryByte}
 use Rattle.order.specs.declared.asking.Line.{Line}
@@ -28,7 +31,8 @@ use Rattle.order.specs.declared.answer.Told.{Told}
 use Rattle.order.specs.declared.answer.Told.the-variants as told
 use Rattle.table.specs.declared.method.ConvexMonotone.{ConvexMonotone}
 use Rattle.table.specs.declared.ends.Seam.the-variants as seam
-use Rattle.curve.specs.Build.{builtOf, tagsLeft, slotsLeft}
+use Rattle.table.specs.Buffers.{Buffers, Outcome}
+use Rattle.curve.specs.Build.{buildOutcome}
 
 -- one more line
 module _ (o : List ℕ) (from : ℕ) (x : List Float) (c : Curve) (tags : List ℕ) (slots : List Float) where
@@ -98,34 +102,21 @@ filled (suc n) f xs h =
     ∙ ap (λ l. l ++ (f n ∷ [])) (filled n f xs (omega arith))
 
 -- by what was built
-pub refused-long : (o : List ℕ) (b : Built) (r : Refusal) → b ≡ built.Refused r → 10 ≡ lengthFor o b
-refused-long o b r h = rw h
+module _ (o : List ℕ) (x : List Float) (made : Outcome Built) where
+  pub refused-text : (r : Refusal) (n : ℕ) (old new : List ℕ) → made .answer ≡ built.Refused r → n ≡ number r → new ≡ overlay 0 10 (buildByte n 0) old → pair 10 new ≡ textFor o x made old
+  refused-text r n old new h e f = rw h (ap (pair 10) (f ∙ ap (λ (k : ℕ). overlay 0 10 (buildByte k 0) old) e))
 
-pub refused-text : (o : List ℕ) (x : List Float) (tags : List ℕ) (slots : List Float) (b : Built) (r : Refusal) (n : ℕ) (old new : List ℕ) → b ≡ built.Refused r → n ≡ number r →
-    new ≡ overlay 0 10 (buildByte n 0) old → new ≡ overlay 0 (lengthFor o b) (byteFor o x tags slots b) old
-refused-text o x tags slots b r n old new h e f = rw h (f ∙ ap (λ (k : ℕ). overlay 0 10 (buildByte k 0) old) e)
-
-pub curve-long : (o : List ℕ) (b : Built) (c : Curve) (n : ℕ) → b ≡ built.Curve c → n ≡ queries o → 10 + 39 * n ≡ lengthFor o b
-curve-long o b c n h e = rw h (ap (λ (k : ℕ). 10 + 39 * k) e)
-
-pub curve-text : (o : List ℕ) (x : List Float) (tags : List ℕ) (slots : List Float) (b : Built) (c d : Curve) (from n m : ℕ) (old mid new : List ℕ) → b ≡ built.Curve c →
-    d ≡ withExtrapolation c (allow o) → from ≡ 20 + 16 * points o → n ≡ queries o → m ≡ c .sections →
-    mid ≡ overlay 0 10 (buildByte 0 m) old → new ≡ overlay 10 (39 * n) (lineByte o from x d tags slots) mid → new ≡ overlay 0 (lengthFor o b) (byteFor o x tags slots b) old
-curve-text o x tags slots b c d from n m old mid new h ed ef en em eo ew = rw h (whole-text o x tags slots c d ed from n m old mid new ef en em eo ew)
+  pub curve-text : (c d : Curve) (from n m : ℕ) (old mid new : List ℕ) → made .answer ≡ built.Curve c → d ≡ withExtrapolation c (allow o) → from ≡ 20 + 16 * points o → n ≡ queries o →
+      m ≡ c .sections → mid ≡ overlay 0 10 (buildByte 0 m) old → new ≡ overlay 10 (39 * n) (lineByte o from x d (made .buffers .tags) (made .buffers .slots)) mid →
+      pair (10 + 39 * n) new ≡ textFor o x made old
+  curve-text c d from n m old mid new h ed ef en em eo ew =
+      rw h (both (ap (λ (k : ℕ). 10 + 39 * k) en) (whole-text o x (made .buffers .tags) (made .buffers .slots) c d ed from n m old mid new ef en em eo ew))
 
 -- a build by the order's own settings
-module _ (o : List ℕ) (x y nodes : List Float) (tags : List ℕ) (slots : List Float) where
-  pub told-long : (m : ConvexMonotone) (h : Bool) (b : Built) (n : ℕ) → m ≡ method o → h ≡ hold o → b ≡ builtOf x y m h seam.Absent nodes tags slots → n ≡ lengthFor o b → n ≡ lengthFor o (ordered o x y nodes tags slots)
-  told-long m h b n em eh eb en = en ∙ ap (lengthFor o) (eb ∙ ap (λ k. builtOf x y k h seam.Absent nodes tags slots) em ∙ ap (λ k. builtOf x y (method o) k seam.Absent nodes tags slots) eh)
-
-  pub told-text : (m : ConvexMonotone) (h : Bool) (b : Built) (t : List ℕ) (s : List Float) (old new : List ℕ) → m ≡ method o → h ≡ hold o → b ≡ builtOf x y m h seam.Absent nodes tags slots →
-      t ≡ tagsLeft x y m h seam.Absent nodes tags slots → s ≡ slotsLeft x y m h seam.Absent nodes tags slots → new ≡ overlay 0 (lengthFor o b) (byteFor o x t s b) old →
-      new ≡ overlay 0 (lengthFor o (ordered o x y nodes tags slots)) (orderedByte o x y nodes tags slots) old
-  told-text m h b t s old new em eh eb et es en =
-      en
-      ∙ ap (λ k. overlay 0 (lengthFor o k) (byteFor o x t s k) old) (eb ∙ ap (λ k. builtOf x y k h seam.Absent nodes tags slots) em ∙ ap (λ k. builtOf x y (method o) k seam.Absent nodes tags slots) eh)
-      ∙ ap (λ k. overlay 0 (lengthFor o (ordered o x y nodes tags slots)) (byteFor o x k s (ordered o x y nodes tags slots)) old) (et ∙ ap (λ k. tagsLeft x y k h seam.Absent nodes tags slots) em ∙ ap (λ k. tagsLeft x y (method o) k seam.Absent nodes tags slots) eh)
-      ∙ ap (λ k. overlay 0 (lengthFor o (ordered o x y nodes tags slots)) (byteFor o x (tagsLeft x y (method o) (hold o) seam.Absent nodes tags slots) k (ordered o x y nodes tags slots)) old) (es ∙ ap (λ k. slotsLeft x y k h seam.Absent nodes tags slots) em ∙ ap (λ k. slotsLeft x y (method o) k seam.Absent nodes tags slots) eh)
+pub told-text : (o : List ℕ) (x y : List Float) (b : Buffers) (m : ConvexMonotone) (h : Bool) (made : Outcome Built) (old : List ℕ) (p : ℕ × List ℕ) → m ≡ method o → h ≡ hold o →
+    made ≡ buildOutcome x y m h seam.Absent b → p ≡ textFor o x made old → p ≡ textFor o x (ordered o x y b) old
+told-text o x y b m h made old p em eh eb ep =
+    ep ∙ ap (λ (q : Outcome Built). textFor o x q old) (eb ∙ ap (λ (k : ConvexMonotone). buildOutcome x y k h seam.Absent b) em ∙ ap (λ (k : Bool). buildOutcome x y (method o) k seam.Absent b) eh)
 
 -- the table as it was read
 module _ (o : List ℕ) (n : ℕ) (old new : List Float) (e : n ≡ points o) (h : points o ≤ length old) where
@@ -136,71 +127,53 @@ module _ (o : List ℕ) (n : ℕ) (old new : List Float) (e : n ≡ points o) (h
   read-averages w =
       ap (take n) w ∙ ap (λ (k : ℕ). take k (overlay 0 k (λ i. numberAt o (20 + 8 * k + 8 * i)) old)) e ∙ filled (points o) (λ i. numberAt o (20 + 8 * points o + 8 * i)) old h
 
-module _ (o : List ℕ) (x y nodes : List Float) (tags : List ℕ) (slots : List Float) where
-  pub form-long : (n : ℕ) → x ≡ knots o → y ≡ averages o → n ≡ lengthFor o (ordered o x y nodes tags slots) → n ≡ lengthFor o (ordered o (knots o) (averages o) nodes tags slots)
-  form-long n ex ey en = en ∙ ap (λ k. lengthFor o (ordered o k y nodes tags slots)) ex ∙ ap (λ k. lengthFor o (ordered o (knots o) k nodes tags slots)) ey
-
-  pub form-text : (old new : List ℕ) → x ≡ knots o → y ≡ averages o → new ≡ overlay 0 (lengthFor o (ordered o x y nodes tags slots)) (orderedByte o x y nodes tags slots) old →
-      new ≡ overlay 0 (lengthFor o (ordered o (knots o) (averages o) nodes tags slots)) (orderedByte o (knots o) (averages o) nodes tags slots) old
-  form-text old new ex ey en =
-      en
-      ∙ ap (λ k. overlay 0 (lengthFor o (ordered o k y nodes tags slots)) (orderedByte o k y nodes tags slots) old) ex
-      ∙ ap (λ k. overlay 0 (lengthFor o (ordered o (knots o) k nodes tags slots)) (orderedByte o (knots o) k nodes tags slots) old) ey
+pub form-text : (o : List ℕ) (x y : List Float) (b : Buffers) (old : List ℕ) (p : ℕ × List ℕ) → x ≡ knots o → y ≡ averages o → p ≡ textFor o x (ordered o x y b) old →
+    p ≡ textFor o (knots o) (ordered o (knots o) (averages o) b) old
+form-text o x y b old p ex ey ep =
+    ep ∙ ap (λ (k : List Float). textFor o k (ordered o k y b) old) ex ∙ ap (λ (k : List Float). textFor o (knots o) (ordered o (knots o) k b) old) ey
 
 -- the answer, by the room and the form
-module _ (o : List ℕ) where
-  pub too-short : (room : ℕ) → ltb room 2506 ≡ true → told.TooShort ≡ toldOf o room
-  too-short room h = rw h
+module _ (o out : List ℕ) where
+  pub too-short : ltb (length out) 2506 ≡ true → pair told.TooShort out ≡ answered o out
+  too-short h = rw h
 
-  pub unwritten : (out : List ℕ) → ltb (length out) 2506 ≡ true → out ≡ outLeft o out
-  unwritten out h = rw h
+  pub malformed : (new : List ℕ) → ltb (length out) 2506 ≡ false → wellFormed o ≡ false → new ≡ overlay 0 10 (buildByte 17 0) out → pair (told.Text 10) new ≡ answered o out
+  malformed new h f e = rw (h, f) (ap (pair (told.Text 10)) e)
 
-  pub malformed : (room : ℕ) → ltb room 2506 ≡ false → wellFormed o ≡ false → told.Text 10 ≡ toldOf o room
-  malformed room h f = rw (h, f)
+  abbrev asText : ℕ × List ℕ → Told × List ℕ
+  asText p = pair (told.Text (p .0)) (p .1)
 
-  pub malformed-text : (out new : List ℕ) → ltb (length out) 2506 ≡ false → wellFormed o ≡ false → new ≡ overlay 0 10 (buildByte 17 0) out → new ≡ outLeft o out
-  malformed-text out new h f e = rw (h, f) e
-
-  pub well : (room n : ℕ) → ltb room 2506 ≡ false → wellFormed o ≡ true → n ≡ lengthFor o (ordered o (knots o) (averages o) (nodes₀ o) (tags₀ o) (slots₀ o)) → told.Text n ≡ toldOf o room
-  well room n h f e = rw (h, f, e)
-
-  pub well-text : (out new : List ℕ) → ltb (length out) 2506 ≡ false → wellFormed o ≡ true →
-      new ≡ overlay 0 (lengthFor o (ordered o (knots o) (averages o) (nodes₀ o) (tags₀ o) (slots₀ o))) (orderedByte o (knots o) (averages o) (nodes₀ o) (tags₀ o) (slots₀ o)) out → new ≡ outLeft o out
-  well-text out new h f e = rw (h, f) e
+  pub well : (p : ℕ × List ℕ) → ltb (length out) 2506 ≡ false → wellFormed o ≡ true → p ≡ textFor o (knots o) (ordered o (knots o) (averages o) room) out → asText p ≡ answered o out
+  well p h f e = ap asText e ∙ rw (h, f)
 
 -- no text is longer than the longest
 few-lines : (o : List ℕ) (b : Built) → queries o ≤ 64 → lengthFor o b ≤ 2506
 few-lines o (built.Curve c) h = omega (arith, h)
 few-lines o (built.Refused r) h = omega arith
 
-pub text-fits : (o : List ℕ) → textLength o ≤ 2506
-text-fits o = by (wellFormed o) (λ h. counts o h .few-queries)
+text-fits : (o out : List ℕ) → (textOf o out .0 ≤ 2506) × (length (textOf o out .1) ≡ length out)
+text-fits o out = by (wellFormed o) (λ h. counts o h .few-queries)
   where
-    by : (t : Bool) → (t ≡ true → queries o ≤ 64) → cond t (lengthFor o (ordered o (knots o) (averages o) (nodes₀ o) (tags₀ o) (slots₀ o))) 10 ≤ 2506
-    by true h = few-lines o (ordered o (knots o) (averages o) (nodes₀ o) (tags₀ o) (slots₀ o)) (h refl)
-    by false h = omega arith
+    made : Outcome Built
+    made = ordered o (knots o) (averages o) room
+
+    by : (t : Bool) → (t ≡ true → queries o ≤ 64) →
+        (cond t (textFor o (knots o) made out) (pair 10 (overlay 0 10 (buildByte 17 0) out)) .0 ≤ 2506)
+        × (length (cond t (textFor o (knots o) made out) (pair 10 (overlay 0 10 (buildByte 17 0) out)) .1) ≡ length out)
+    by true h = (few-lines o (made .answer) (h refl), length-overlay 0 (lengthFor o (made .answer)) (byteFor o (knots o) (made .buffers .tags) (made .buffers .slots) (made .answer)) out)
+    by false h = (omega arith, length-overlay 0 10 (buildByte 17 0) out)
 
 abbrev inText : ℕ → Told → ℕ
 inText d (told.Text n) = n
 inText d told.TooShort = d
 
-pub told-fits : (o : List ℕ) (room : ℕ) (t : Told) (n : ℕ) → t ≡ toldOf o room → t ≡ told.Text n → n ≤ 2506
-told-fits o room t n e h = by (ltb room 2506) (sym h ∙ e)
-  where
-    by : (b : Bool) → told.Text n ≡ cond b told.TooShort (told.Text (textLength o)) → n ≤ 2506
-    by true k = subst (λ (m : ℕ). m ≤ 2506) (sym (ap (inText 0) k)) zero-le
-    by false k = subst (λ (m : ℕ). m ≤ 2506) (sym (ap (inText 0) k)) (text-fits o)
-
-left-length : (o out : List ℕ) → length (outLeft o out) ≡ length out
-left-length o out = by (ltb (length out) 2506)
-  where
-    by : (b : Bool) → length (cond b out (overlay 0 (textLength o) (textAt o) out)) ≡ length out
-    by true = refl
-    by false = length-overlay 0 (textLength o) (textAt o) out
-
 -- a text stands wholly in the buffer that it was written to
-pub holds-text : (o out new : List ℕ) (t : Told) (n : ℕ) → length out ≡ 2506 → t ≡ toldOf o (length out) → new ≡ outLeft o out → t ≡ told.Text n → n ≤ length new
-holds-text o out new t n l e f h =
-    let k = told-fits o (length out) t n e h in
-    let m = ap length f ∙ left-length o out in
-    omega (arith, k, m, l)
+pub holds-text : (o out : List ℕ) (p : Told × List ℕ) (n : ℕ) → length out ≡ 2506 → p ≡ answered o out → p .0 ≡ told.Text n → n ≤ length (p .1)
+holds-text o out p n l e h = by (ltb (length out) 2506) (le-ltb (length out) 2506 (omega (arith, l))) (ap (inText 0) (sym h ∙ ap (λ (q : Told × List ℕ). q .0) e)) (ap (λ (q : Told × List ℕ). length (q .1)) e)
+  where
+    answer : Bool → Told × List ℕ
+    answer b = cond b (pair told.TooShort out) (pair (told.Text (textOf o out .0)) (textOf o out .1))
+
+    by : (b : Bool) → b ≡ false → n ≡ inText 0 (answer b .0) → length (p .1) ≡ length (answer b .1) → n ≤ length (p .1)
+    by true z u v = never refl z
+    by false z u v = let (few, whole) = text-fits o out in omega (arith, u, v, few, whole, l)

@@ -5,13 +5,16 @@ use mathlib.Core.List.{List}
 use lib.Dec.{ltb}
 use lib.Ieee.{Float, binary64, toBits}
 use lib.ListN.{length, replicate}
-use Rattle.numbers.specs.Words.{nought}
-use Rattle.refusal.specs.Refusal.{number}
+use Rattle.numbers.specs.OneOutcome.{pair}
 use Rattle.numbers.specs.Overlay.{overlay}
+use Rattle.numbers.specs.Sizes.{slotCount}
+use Rattle.numbers.specs.Words.{zero}
+use Rattle.refusal.specs.Refusal.{number}
 use Rattle.section.specs.Section.{value, primitive}
+use Rattle.table.specs.Buffers.{Buffers, Outcome, buffers}
 use Rattle.table.specs.declared.ends.Seam.the-variants as seam
-use Rattle.curve.specs.Build.{builtOf, tagsLeft, slotsLeft}
-use Rattle.curve.specs.Curve.{withExtrapolation, toldCurve}
+use Rattle.curve.specs.Build.{buildOutcome}
+use Rattle.curve.specs.Curve.{withExtrapolation}
 use Rattle.query.specs.Query.{coveredAt, ask, toldNumber}
 use Rattle.curve.specs.declared.curve.Curve.{Curve}
 use Rattle.curve.specs.declared.curve.Built.{Built}
@@ -45,35 +48,23 @@ byteFor o x tags slots (built.Curve c) i =
     cond (ltb i 10) (buildByte 0 (c .sections) i) (lineByte o (20 + 16 * points o) x (withExtrapolation c (allow o)) tags slots (i - 10))
 byteFor o x tags slots (built.Refused r) i = buildByte (number r) 0 i
 
--- the build that an order asks for of a table, into lent buffers, and the text that tells of it
-module _ (o : List ℕ) (x y : List Float) (nodes : List Float) (tags : List ℕ) (slots : List Float) where
-  abbrev pub ordered : Built
-  ordered = builtOf x y (method o) (hold o) seam.Absent nodes tags slots
+-- how long the text of a build is, and what a buffer holds with the text in it
+abbrev pub textFor : List ℕ → List Float → Outcome Built → List ℕ → ℕ × List ℕ
+textFor o x made out =
+    pair (lengthFor o (made .answer)) (overlay 0 (lengthFor o (made .answer)) (byteFor o x (made .buffers .tags) (made .buffers .slots) (made .answer)) out)
 
-  abbrev pub orderedByte : ℕ → ℕ
-  orderedByte =
-      byteFor o x (tagsLeft x y (method o) (hold o) seam.Absent nodes tags slots) (slotsLeft x y (method o) (hold o) seam.Absent nodes tags slots) ordered
+-- the build that an order asks for of a table, into lent buffers
+abbrev pub ordered : List ℕ → List Float → List Float → Buffers → Outcome Built
+ordered o x y b = buildOutcome x y (method o) (hold o) seam.Absent b
+
+-- buffers for the largest table that an order can have
+abbrev pub room : Buffers
+room = buffers (replicate 200 zero) (replicate 200 0) (replicate (200 * slotCount) zero)
 
 -- an order's text; one that is not well formed gets refusal 17
-module _ (o : List ℕ) where
-  abbrev pub nodes₀ : List Float
-  nodes₀ = replicate 200 nought
+abbrev pub textOf : List ℕ → List ℕ → ℕ × List ℕ
+textOf o out = cond (wellFormed o) (textFor o (knots o) (ordered o (knots o) (averages o) room) out) (pair 10 (overlay 0 10 (buildByte 17 0) out))
 
-  abbrev pub tags₀ : List ℕ
-  tags₀ = replicate 200 0
-
-  abbrev pub slots₀ : List Float
-  slots₀ = replicate 4800 nought
-
-  abbrev pub textLength : ℕ
-  textLength = cond (wellFormed o) (lengthFor o (ordered o (knots o) (averages o) nodes₀ tags₀ slots₀)) 10
-
-  abbrev pub textAt : ℕ → ℕ
-  textAt = cond (wellFormed o) (orderedByte o (knots o) (averages o) nodes₀ tags₀ slots₀) (buildByte 17 0)
-
-  -- a buffer of fewer bytes than the longest text has is refused, and not written to
-  abbrev pub toldOf : ℕ → Told
-  toldOf room = cond (ltb room 2506) told.TooShort (told.Text textLength)
-
-  abbrev pub outLeft : List ℕ → List ℕ
-  outLeft out = cond (ltb (length out) 2506) out (overlay 0 textLength textAt out)
+-- a buffer of fewer bytes than the longest text has is refused, and not written to
+abbrev pub answered : List ℕ → List ℕ → Told × List ℕ
+answered o out = cond (ltb (length out) 2506) (pair told.TooShort out) (let text = textOf o out in pair (told.Text (text .0)) (text .1))

@@ -13,18 +13,25 @@ use crate::text::put_query;
 use curve::build::build;
 use curve::curve::Built;
 use curve::curve::Curve;
+use numbers::SLOTS;
 use table::ends::Seam;
 use table::method::ConvexMonotone;
 ghost use mathlib.Core.Path.{_≡_};
 ghost use mathlib.Core.Bool.{true};
+ghost use mathlib.Core.List.{[]};
 ghost use Prim.Native.Nat.{_+_, _-_, _*_, _≤_, _<_};
 ghost use lib.ListN.{length};
+ghost use Rattle.numbers.specs.OneOutcome.{pair};
 ghost use Rattle.numbers.specs.Overlay.{overlay};
+ghost use Rattle.table.specs.Buffers.{buffers, outcome};
 ghost use Rattle.order.specs.Form.{headerOf, wellFormed, method, knots, averages};
-ghost use Rattle.order.specs.Answer.{lineByte, ordered, orderedByte, lengthFor, byteFor, toldOf, outLeft};
+ghost use Rattle.order.specs.Answer.{lineByte, textFor, ordered, answered};
 
 // The longest text: a line for the build and 64 for queries.
 const LONGEST: usize = 2506;
+
+// The slots of the largest table that an order can have.
+const ROOM: usize = 200 * SLOTS;
 
 // What answering tells: how long the text is, or that the buffer could not hold the longest.
 pub enum Told {
@@ -74,8 +81,7 @@ fn put_answer(
     out: &mut [u8],
 ) -> usize
     requires { ⌜ (header ≡ headerOf (now order)) × (wellFormed (now order) ≡ true) × (2506 ≤ length (now out)) ⌝ }
-    ensures long { λ r. ⌜ r ≡ lengthFor (now (order .entry)) built ⌝ }
-    ensures text { λ _. ⌜ now (out .exit) ≡ overlay 0 (lengthFor (now (order .entry)) built) (byteFor (now (order .entry)) (now (xs .entry)) (now (tags .entry)) (now (slots .entry)) built) (now (out .entry)) ⌝ }
+    ensures { λ r. ⌜ pair r (now (out .exit)) ≡ textFor (now (order .entry)) (now (xs .entry)) (outcome built [] (now (tags .entry)) (now (slots .entry))) (now (out .entry)) ⌝ }
 {
     match built {
         Built::Refused(refusal) => {
@@ -104,8 +110,7 @@ fn answer_table(
     out: &mut [u8],
 ) -> usize
     requires { ⌜ (wellFormed (now order) ≡ true) × (2506 ≤ length (now out)) ⌝ }
-    ensures long { λ r. ⌜ r ≡ lengthFor (now (order .entry)) (ordered (now (order .entry)) (now (xs .entry)) (now (ys .entry)) (now (nodes .entry)) (now (tags .entry)) (now (slots .entry))) ⌝ }
-    ensures text { λ _. ⌜ now (out .exit) ≡ overlay 0 (lengthFor (now (order .entry)) (ordered (now (order .entry)) (now (xs .entry)) (now (ys .entry)) (now (nodes .entry)) (now (tags .entry)) (now (slots .entry)))) (orderedByte (now (order .entry)) (now (xs .entry)) (now (ys .entry)) (now (nodes .entry)) (now (tags .entry)) (now (slots .entry))) (now (out .entry)) ⌝ }
+    ensures { λ r. ⌜ pair r (now (out .exit)) ≡ textFor (now (order .entry)) (now (xs .entry)) (ordered (now (order .entry)) (now (xs .entry)) (now (ys .entry)) (buffers (now (nodes .entry)) (now (tags .entry)) (now (slots .entry)))) (now (out .entry)) ⌝ }
 {
     let header = header_of(order);
     let method = method_of(order, header);
@@ -125,8 +130,7 @@ fn answer_form(
     out: &mut [u8],
 ) -> usize
     requires { ⌜ (wellFormed (now order) ≡ true) × (200 ≤ length (now xs)) × (200 ≤ length (now ys)) × (2506 ≤ length (now out)) ⌝ }
-    ensures long { λ r. ⌜ r ≡ lengthFor (now (order .entry)) (ordered (now (order .entry)) (knots (now (order .entry))) (averages (now (order .entry))) (now (nodes .entry)) (now (tags .entry)) (now (slots .entry))) ⌝ }
-    ensures text { λ _. ⌜ now (out .exit) ≡ overlay 0 (lengthFor (now (order .entry)) (ordered (now (order .entry)) (knots (now (order .entry))) (averages (now (order .entry))) (now (nodes .entry)) (now (tags .entry)) (now (slots .entry)))) (orderedByte (now (order .entry)) (knots (now (order .entry))) (averages (now (order .entry))) (now (nodes .entry)) (now (tags .entry)) (now (slots .entry))) (now (out .entry)) ⌝ }
+    ensures { λ r. ⌜ pair r (now (out .exit)) ≡ textFor (now (order .entry)) (knots (now (order .entry))) (ordered (now (order .entry)) (knots (now (order .entry))) (averages (now (order .entry))) (buffers (now (nodes .entry)) (now (tags .entry)) (now (slots .entry)))) (now (out .entry)) ⌝ }
 {
     let points = points_of(header_of(order));
     read_floats(order, 20, points, xs);
@@ -137,8 +141,7 @@ fn answer_form(
 // Answers an order. The text is at most 2,506 bytes; a buffer that could not hold the longest is not written to. An order that is not well formed has
 // its own text.
 pub fn answer(order: &[u8], out: &mut [u8]) -> Told
-    ensures told { λ r. ⌜ r ≡ toldOf (now (order .entry)) (length (now (out .entry))) ⌝ }
-    ensures out { λ _. ⌜ now (out .exit) ≡ outLeft (now (order .entry)) (now (out .entry)) ⌝ }
+    ensures { λ r. ⌜ pair r (now (out .exit)) ≡ answered (now (order .entry)) (now (out .entry)) ⌝ }
 {
     if out.len() < LONGEST {
         return Told::TooShort;
@@ -151,7 +154,7 @@ pub fn answer(order: &[u8], out: &mut [u8]) -> Told
     let mut averages = [0.0; 200];
     let mut nodes = [0.0; 200];
     let mut tags = [0u16; 200];
-    let mut slots = [0.0; 4800];
+    let mut slots = [0.0; ROOM];
     Told::Text(answer_form(
         order,
         &mut knots,

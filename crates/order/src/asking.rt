@@ -1,6 +1,6 @@
 // What a query of an order is answered.
 use curve::curve::Curve;
-use query::asked::Asked;
+use query::answer::QueryAnswer;
 use query::single::primitive;
 use query::single::value;
 ghost use mathlib.Core.Path.{_≡_};
@@ -24,7 +24,7 @@ pub(crate) fn ask(xs: &[f64], curve: Curve, tags: &[u16], slots: &[f64], q: f64)
     ensures { λ r. ⌜ r ≡ lineOf (now (xs .entry)) curve (now (tags .entry)) (now (slots .entry)) q ⌝ }
 {
     let asked = value(xs, curve, tags, slots, q);
-    let Asked::Number(v) = asked else {
+    let QueryAnswer::Number(v) = asked else {
         return Line {
             refusal: wide(asked.told().refusal),
             value: 0,
@@ -32,7 +32,7 @@ pub(crate) fn ask(xs: &[f64], curve: Curve, tags: &[u16], slots: &[f64], q: f64)
         };
     };
     let total = primitive(xs, curve, tags, slots, q);
-    let Asked::Number(p) = total else {
+    let QueryAnswer::Number(p) = total else {
         return Line {
             refusal: wide(total.told().refusal),
             value: 0,

@@ -2,14 +2,14 @@
 use mathlib.Core.Bool.{true}
 use mathlib.Core.Path.{_≡_, refl}
 use lib.Ieee.{Float, nan, binary64, ofBits, add, sub, mul, div, neg, le, lt}
-use Rattle.numbers.specs.Words.{nought, half, one, two, three, four}
+use Rattle.numbers.specs.Words.{zero, half, one, two, three, four}
 use Rattle.root.specs.Root.{root}
 use Rattle.quadratic.specs.declared.quadratic_min.QuadraticMin.{QuadraticMin}
 use Rattle.quadratic.specs.QuadraticMin as quadmin
 
 -- on 0..1 with the ends 4 and 1
 abbrev fallsTo : Float → QuadraticMin
-fallsTo average = quadmin.new nought one four one average nought
+fallsTo average = quadmin.new zero one four one average zero
 
 -- average 0.5: at 0.25, 0.5 and 1
 pub p5 : (quadmin.value (fallsTo half) (ofBits binary64 0x3fd0_0000_0000_0000) ≡ ofBits binary64 0x3fd0_0000_0000_0000)

@@ -2,7 +2,7 @@
 use mathlib.Core.Bool.{Bool, true, false, _||_}
 use mathlib.Core.Path.{_≡_, refl}
 use lib.Ieee.{Float, le, lt}
-use Rattle.numbers.specs.Words.{_⊕_, _⊖_, _⊗_, _⊘_, nought, one}
+use Rattle.numbers.specs.Words.{_⊕_, _⊖_, _⊗_, _⊘_, zero, one}
 use Rattle.quadratic.specs.declared.quadratic_min.QuadraticMin.{QuadraticMin}
 use Rattle.quadratic.specs.Quadratic as quadratic
 use Rattle.quadratic.specs.QuadraticMin as quadmin
@@ -32,7 +32,7 @@ unfolding le
 not-le-not-lt x y h = first-false _ _ h
 
 module _ (s : QuadraticMin) (split : s .«split_region» ≡ true) (x : Float) (past : le x (s .x2) ≡ false) (before : lt x (s .x3) ≡ true) where
-  pub quadmin-zero-value : quadmin.value s x ≡ nought
+  pub quadmin-zero-value : quadmin.value s x ≡ zero
   unfolding quadmin.value
   quadmin-zero-value = rw (split, past, before)
 

@@ -1,36 +1,35 @@
--- Any two answers that a contract allows are the same, of the contract as the checker reads it: one line for each public function.
-use mathlib.Core.List.{List}
+-- Any two outcomes that a contract allows are the same, of each contract as the checker reads it.
 use mathlib.Core.Path.{_≡_, _∙_, sym}
-use contract.Lifetimes.{Lfts}
-use borrow.Fn.Kinds as K
-use denote.Triple.Clauses.{AtExit}
-use Rattle.quadratic.proofs.quadratic.Quadratic as quadratic
-use Rattle.quadratic.proofs.quadratic_min.QuadraticMin as quadmin
+use Rattle.numbers.specs.OneOutcome.{OneAnswer}
+use Rattle.quadratic.proofs.quadratic.Quadratic.new.Reads as quadratic-new
+use Rattle.quadratic.proofs.quadratic.Quadratic.value.Reads as quadratic-value
+use Rattle.quadratic.proofs.quadratic.Quadratic.primitive.Reads as quadratic-primitive
+use Rattle.quadratic.proofs.quadratic.Quadratic.f_next.Reads as quadratic-f-next
+use Rattle.quadratic.proofs.quadratic_min.QuadraticMin.new.Reads as quadratic-min-new
+use Rattle.quadratic.proofs.quadratic_min.QuadraticMin.value.Reads as quadratic-min-value
+use Rattle.quadratic.proofs.quadratic_min.QuadraticMin.primitive.Reads as quadratic-min-primitive
+use Rattle.quadratic.proofs.quadratic_min.QuadraticMin.f_next.Reads as quadratic-min-f-next
 
--- of a function with parameters ps and result r, all by value, whose `ensures` is Post
-abbrev Unique : (ps : List (K.PK 0)) (r : K.RK 0) → K.Out 0 ps r → Type 0
-Unique ps r Post = (κs : Lfts 0) (a : K.Dens κs ps) (r₁ r₂ : K.resT r κs .Denot) (s₁ s₂ : AtExit (K.endedOf 0 ps r) κs) → Post κs a r₁ s₁ → Post κs a r₂ s₂ → r₁ ≡ r₂
+pub quadratic-new-unique : OneAnswer quadratic-new.Post
+quadratic-new-unique κ a r₁ r₂ s t p q = p ∙ sym q
 
-pub quadratic-new : Unique quadratic.new.Kinds.ps quadratic.new.Kinds.r quadratic.new.Reads.Post
-quadratic-new κs a r₁ r₂ s₁ s₂ p q = p ∙ sym q
+pub quadratic-value-unique : OneAnswer quadratic-value.Post
+quadratic-value-unique κ a r₁ r₂ s t p q = p ∙ sym q
 
-pub quadratic-value : Unique quadratic.value.Kinds.ps quadratic.value.Kinds.r quadratic.value.Reads.Post
-quadratic-value κs a r₁ r₂ s₁ s₂ p q = p ∙ sym q
+pub quadratic-primitive-unique : OneAnswer quadratic-primitive.Post
+quadratic-primitive-unique κ a r₁ r₂ s t p q = p ∙ sym q
 
-pub quadratic-primitive : Unique quadratic.primitive.Kinds.ps quadratic.primitive.Kinds.r quadratic.primitive.Reads.Post
-quadratic-primitive κs a r₁ r₂ s₁ s₂ p q = p ∙ sym q
+pub quadratic-f-next-unique : OneAnswer quadratic-f-next.Post
+quadratic-f-next-unique κ a r₁ r₂ s t p q = p ∙ sym q
 
-pub quadratic-f-next : Unique quadratic.f_next.Kinds.ps quadratic.f_next.Kinds.r quadratic.f_next.Reads.Post
-quadratic-f-next κs a r₁ r₂ s₁ s₂ p q = p ∙ sym q
+pub quadratic-min-new-unique : OneAnswer quadratic-min-new.Post
+quadratic-min-new-unique κ a r₁ r₂ s t p q = p ∙ sym q
 
-pub quadmin-new : Unique quadmin.new.Kinds.ps quadmin.new.Kinds.r quadmin.new.Reads.Post
-quadmin-new κs a r₁ r₂ s₁ s₂ p q = p ∙ sym q
+pub quadratic-min-value-unique : OneAnswer quadratic-min-value.Post
+quadratic-min-value-unique κ a r₁ r₂ s t p q = p ∙ sym q
 
-pub quadmin-value : Unique quadmin.value.Kinds.ps quadmin.value.Kinds.r quadmin.value.Reads.Post
-quadmin-value κs a r₁ r₂ s₁ s₂ p q = p ∙ sym q
+pub quadratic-min-primitive-unique : OneAnswer quadratic-min-primitive.Post
+quadratic-min-primitive-unique κ a r₁ r₂ s t p q = p ∙ sym q
 
-pub quadmin-primitive : Unique quadmin.primitive.Kinds.ps quadmin.primitive.Kinds.r quadmin.primitive.Reads.Post
-quadmin-primitive κs a r₁ r₂ s₁ s₂ p q = p ∙ sym q
-
-pub quadmin-f-next : Unique quadmin.f_next.Kinds.ps quadmin.f_next.Kinds.r quadmin.f_next.Reads.Post
-quadmin-f-next κs a r₁ r₂ s₁ s₂ p q = p ∙ sym q
+pub quadratic-min-f-next-unique : OneAnswer quadratic-min-f-next.Post
+quadratic-min-f-next-unique κ a r₁ r₂ s t p q = p ∙ sym q

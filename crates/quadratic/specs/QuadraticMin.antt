@@ -1,7 +1,7 @@
 -- 000, QuadraticMinHelper
 use mathlib.Core.Bool.{Bool, true, false, cond, _&&_}
 use lib.Ieee.{Float, le, lt, neg}
-use Rattle.numbers.specs.Words.{_⊕_, _⊖_, _⊗_, _⊘_, nought, one, two, three, four, twentyFour, thirtySix}
+use Rattle.numbers.specs.Words.{_⊕_, _⊖_, _⊗_, _⊘_, zero, one, two, three, four, twentyFour, thirtySix}
 use Rattle.root.specs.Root.{root}
 use Rattle.quadratic.specs.Parabola.{«a_of», «b_of», under}
 use Rattle.quadratic.specs.declared.quadratic_min.QuadraticMin.{QuadraticMin}
@@ -24,21 +24,21 @@ module _ («f_prev» «f_next» : Float) where
   splits «f_average» =
       let a = «a_of» «f_prev» «f_next» «f_average» in
       let b = «b_of» «f_prev» «f_next» «f_average» in
-      lt nought (b ⊗ b ⊖ four ⊗ a ⊗ «f_prev») && le nought «d_av»
+      lt zero (b ⊗ b ⊖ four ⊗ a ⊗ «f_prev») && le zero «d_av»
 
 module _ («x_prev» «x_next» «f_prev» «f_next» «f_average» «prev_primitive» : Float) where
   abbrev pub unsplit : QuadraticMin
   unsplit = record {
     «split_region» = false;
     x1 = «x_prev»;
-    x2 = nought;
-    x3 = nought;
+    x2 = zero;
+    x3 = zero;
     x4 = «x_next»;
     a = «a_of» «f_prev» «f_next» «f_average»;
     b = «b_of» «f_prev» «f_next» «f_average»;
     c = «f_prev»;
     primitive1 = «prev_primitive»;
-    primitive2 = nought;
+    primitive2 = zero;
     «f_next» = «f_next»;
     «x_scaling» = «x_next» ⊖ «x_prev»;
     «x_ratio» = one;
@@ -93,7 +93,7 @@ module _ (s : QuadraticMin) where
   unfoldable pub value : Float → Float
   value x =
       cond «split_region»
-      (cond (le x x2) («value_at» (before x)) (cond (lt x x3) nought («value_at» (after x))))
+      (cond (le x x2) («value_at» (before x)) (cond (lt x x3) zero («value_at» (after x))))
       («value_at» («x_val» x))
 
   unfoldable pub primitive : Float → Float

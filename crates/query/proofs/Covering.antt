@@ -14,7 +14,7 @@ use Rattle.numbers.proofs.Every.{all-at}
 use Rattle.numbers.proofs.Ways.{never}
 use Rattle.section.specs.declared.section.Section.{Section}
 use Rattle.refusal.specs.Refusal.{first, andThen}
-use Rattle.record.specs.Number.{answerIn, orNought}
+use Rattle.record.specs.Number.{answerIn, orZero}
 use Rattle.record.specs.Reading.{isSection, recordAt}
 use Rattle.record.specs.declared.number.Answer.{Answer}
 use Rattle.record.specs.declared.number.Answer.the-variants as answer
@@ -28,9 +28,9 @@ use Rattle.refusal.proofs.First.{both-accept, first-append}
 use Rattle.table.specs.Table.{at}
 use Rattle.curve.specs.declared.curve.Curve.{Curve}
 use Rattle.query.specs.Query.{curveTests, pointTests, queryTests, placeOf, tailSection, covering, coveredOf, coveredAt, ask, toldNumber}
-use Rattle.query.specs.declared.asked.Asked.{Asked}
-use Rattle.query.specs.declared.asked.Asked.the-variants as asked
-use Rattle.query.specs.declared.asked.Covered.{Covered}
+use Rattle.query.specs.declared.answer.QueryAnswer.{QueryAnswer}
+use Rattle.query.specs.declared.answer.QueryAnswer.the-variants as query-answer
+use Rattle.query.specs.declared.answer.Covered.{Covered}
 use Rattle.query.proofs.Walk.{place-le}
 use Rattle.query.specs.declared.number.Wanted.{Wanted}
 use Rattle.query.specs.Number.{figure}
@@ -82,9 +82,9 @@ either-legal true s f h = refl
 either-legal false s f h = h
 
 -- what is asked of a query that passed its tests, by what the section that covers it answers
-abbrev askedOf : Answer → Asked
-askedOf (answer.Number n) = asked.Number n
-askedOf answer.Illegal = asked.Refused RecordNotLegal
+abbrev askedOf : Answer → QueryAnswer
+askedOf (answer.Number n) = query-answer.Number n
+askedOf answer.Illegal = query-answer.Refused RecordNotLegal
 
 asked-of-found : (f : Section → Float) (k : Found) → askedOf (answerIn f k) ≡ ask f (coveredOf Accepted k)
 asked-of-found f (found.Section s) = refl
@@ -93,10 +93,10 @@ asked-of-found f found.Illegal = refl
 pub answered : (f : Section → Float) (v : Verdict) (k : Found) (n : Answer) → v ≡ Accepted → answerIn f k ≡ n → askedOf n ≡ ask f (coveredOf v k)
 answered f v k n e h = ap askedOf (sym h) ∙ asked-of-found f k ∙ ap (λ (u : Verdict). ask f (coveredOf u k)) (sym e)
 
-pub not-answered : (f : Section → Float) (v : Verdict) (r : Refusal) (k : Found) → v ≡ Refused r → asked.Refused r ≡ ask f (coveredOf v k)
+pub not-answered : (f : Section → Float) (v : Verdict) (r : Refusal) (k : Found) → v ≡ Refused r → query-answer.Refused r ≡ ask f (coveredOf v k)
 not-answered f v r k e = rw e refl
 
-number-of-found : (f : Section → Float) (k : Found) → toldNumber (ask f (coveredOf Accepted k)) .answer ≡ orNought (answerIn f k)
+number-of-found : (f : Section → Float) (k : Found) → toldNumber (ask f (coveredOf Accepted k)) .answer ≡ orZero (answerIn f k)
 number-of-found f (found.Section s) = refl
 number-of-found f found.Illegal = refl
 
@@ -135,7 +135,7 @@ module _ (x : List Float) (curve : Curve) (tags : List ℕ) (slots : List Float)
 
   -- a query that is not refused is told the number that its record has
   pub told : (w : Wanted) → first (curveTests x (length tags) (length slots)) ≡ Accepted → verdictOf (coveredAt x curve tags slots q) ≡ Accepted →
-      answerAt (figure w) x curve tags slots q ≡ orNought (answerIn (λ s. figure w s q) (covering x curve tags slots q))
+      answerAt (figure w) x curve tags slots q ≡ orZero (answerIn (λ s. figure w s q) (covering x curve tags slots q))
   told w h g =
       let e = of-the-point h in
       let v = verdict-point (first (pointTests x curve q)) (covering x curve tags slots q) (ap verdictOf (sym e) ∙ g) in
@@ -145,11 +145,11 @@ module _ (x : List Float) (curve : Curve) (tags : List ℕ) (slots : List Float)
   -- so with the number of the curve's own record, from the last knot on
   pub tail-told : (w : Wanted) → first (curveTests x (length tags) (length slots)) ≡ Accepted → verdictOf (coveredAt x curve tags slots q) ≡ Accepted →
       le (at x (length x - 1)) q ≡ true → (v : Float) → v ≡ figure w (tailSection curve) q → v ≡ answerAt (figure w) x curve tags slots q
-  tail-told w h g b v e = e ∙ sym (told w h g ∙ ap (λ (f : Found). orNought (answerIn (λ s. figure w s q) f)) (from-the-last b))
+  tail-told w h g b v e = e ∙ sym (told w h g ∙ ap (λ (f : Found). orZero (answerIn (λ s. figure w s q) f)) (from-the-last b))
 
   -- and with that of the record at its place before it
   pub place-told : (w : Wanted) → first (curveTests x (length tags) (length slots)) ≡ Accepted → verdictOf (coveredAt x curve tags slots q) ≡ Accepted →
-      le (at x (length x - 1)) q ≡ false → (v : Float) (p : ℕ) → p ≡ placeOf x q → v ≡ orNought (answerIn (λ s. figure w s q) (recordAt tags slots p)) →
+      le (at x (length x - 1)) q ≡ false → (v : Float) (p : ℕ) → p ≡ placeOf x q → v ≡ orZero (answerIn (λ s. figure w s q) (recordAt tags slots p)) →
       v ≡ answerAt (figure w) x curve tags slots q
   place-told w h g b v p i e =
-      e ∙ ap (λ (k : Found). orNought (answerIn (λ s. figure w s q) k)) (ap (recordAt tags slots) i ∙ sym (before-the-last b)) ∙ sym (told w h g)
+      e ∙ ap (λ (k : Found). orZero (answerIn (λ s. figure w s q) k)) (ap (recordAt tags slots) i ∙ sym (before-the-last b)) ∙ sym (told w h g)

@@ -7,6 +7,7 @@ use lib.Dec.{ltb}
 use lib.Ieee.{Float}
 use lib.ListN.{length}
 use borrow.Author.Tests.{ltb-false}
+use Rattle.numbers.specs.OneOutcome.{pair}
 use Rattle.refusal.specs.Refusal.{Test, _⇒_, first, andThen}
 use Rattle.refusal.specs.declared.Refusal.{Refusal}
 use Rattle.refusal.specs.declared.Refusal.the-variants.{BufferTooShort}
@@ -14,7 +15,7 @@ use Rattle.refusal.specs.declared.Verdict.{Verdict}
 use Rattle.refusal.specs.declared.Verdict.the-variants.{Accepted, Refused}
 use Rattle.refusal.proofs.First.{Passed, passed, both-accept, first-append}
 use Rattle.query.specs.Query.{curveTests}
-use Rattle.query.specs.Many.{manyTests}
+use Rattle.query.specs.Many.{manyTests, manyBy}
 
 module _ (x : List Float) (tags slots queries room : ℕ) where
   pub refused-before : (v rest : Verdict) (r : Refusal) → v ≡ first (curveTests x tags slots) → v ≡ Refused r → v ≡ andThen (first (manyTests x tags slots queries room)) rest
@@ -43,3 +44,10 @@ module _ (x : List Float) (tags slots queries room : ℕ) where
       let t = both-accept (first (curveTests x tags slots)) (first ((ltb room queries ⇒ BufferTooShort) ∷ []))
       (sym (first-append (curveTests x tags slots) ((ltb room queries ⇒ BufferTooShort) ∷ [])) ∙ b .0) in
       record { of-curve = t .0; room-enough = ltb-false room queries (passed ((ltb room queries ⇒ BufferTooShort) ∷ []) (t .1) .0); of-queries = b .1 }
+
+-- an outcome of many, by the verdict
+pub many-refused : (v w : Verdict) (r : Refusal) (new old : List Float) → v ≡ w → v ≡ Refused r → pair v old ≡ manyBy w new old
+many-refused v w r new old e f = ap (λ (u : Verdict). pair u old) f ∙ ap (λ (u : Verdict). manyBy u new old) (sym f ∙ e)
+
+pub many-accepted : (v w : Verdict) (l new old : List Float) → v ≡ w → v ≡ Accepted → l ≡ new → pair v l ≡ manyBy w new old
+many-accepted v w l new old e f g = ap (λ (u : Verdict). pair u l) f ∙ ap (pair Accepted) g ∙ ap (λ (u : Verdict). manyBy u new old) (sym f ∙ e)

@@ -18,7 +18,7 @@ use Rattle.table.specs.Table.{at}
 use Rattle.query.specs.Query.{placeOf}
 use Rattle.query.proofs.Walk.{place-le}
 use Rattle.query.proofs.Above.{none-before, above-here}
-use Rattle.query.specs.Many.{covers}
+use Rattle.query.specs.Steps.{covers}
 
 -- knots that rise step by step rise over any stretch
 climbs : (x : List Float) → rising x ≡ true → (i k : ℕ) → i + 1 + k < length x → lt (at x i) (at x (i + 1 + k)) ≡ true

@@ -1,10 +1,10 @@
 -- Many queries of one curve. Each gets the number that it gets by itself, and the first that is refused refuses all.
-use Prim.Native.Nat.{ℕ, zero, suc, _+_, _-_}
-use mathlib.Core.Bool.{Bool, true, false, not, _&&_, _||_}
+use Prim.Native.Nat.{ℕ, zero, suc}
 use mathlib.Core.List.{List, [], _∷_, _++_}
-use lib.Dec.{eqb, ltb, leb}
-use lib.Ieee.{Float, lt}
+use lib.Dec.{ltb}
+use lib.Ieee.{Float}
 use lib.ListN.{length}
+use Rattle.numbers.specs.OneOutcome.{pair}
 use Rattle.numbers.specs.Overlay.{overlay}
 use Rattle.section.specs.declared.section.Section.{Section}
 use Rattle.refusal.specs.Refusal.{Test, _⇒_, first, andThen}
@@ -14,8 +14,8 @@ use Rattle.refusal.specs.declared.Verdict.the-variants as verdict
 use Rattle.table.specs.Table.{at}
 use Rattle.curve.specs.declared.curve.Curve.{Curve}
 use Rattle.query.specs.Query.{curveTests, coveredAt, ask, toldNumber}
-use Rattle.query.specs.declared.asked.Covered.{Covered}
-use Rattle.query.specs.declared.asked.Covered.the-variants as covered
+use Rattle.query.specs.declared.answer.Covered.{Covered}
+use Rattle.query.specs.declared.answer.Covered.the-variants as covered
 
 abbrev pub verdictOf : Covered → Verdict
 verdictOf (covered.Section s) = verdict.Accepted
@@ -45,6 +45,10 @@ answerAt f x curve tags slots q = toldNumber (ask (λ s. f s q) (coveredAt x cur
 abbrev pub answersAfter : (Section → Float → Float) → List Float → Curve → List ℕ → List Float → List Float → List Float → List Float
 answersAfter f x curve tags slots qs out = overlay 0 (length qs) (λ i. answerAt f x curve tags slots (at qs i)) out
 
--- whether a query lies in section i: not below its first knot, and below its last, as far as these are inner knots
-abbrev pub covers : List Float → Float → ℕ → Bool
-covers x q i = (eqb i 0 || not (lt q (at x i))) && (leb (length x - 2) i || lt q (at x (i + 1)))
+-- what a check of many says and what the slice of answers holds afterwards: as it was, where the check refuses
+abbrev pub manyBy : Verdict → List Float → List Float → Verdict × List Float
+manyBy verdict.Accepted new old = pair verdict.Accepted new
+manyBy (verdict.Refused r) new old = pair (verdict.Refused r) old
+
+abbrev pub manyOutcome : (Section → Float → Float) → List Float → Curve → List ℕ → List Float → List Float → List Float → Verdict × List Float
+manyOutcome f x curve tags slots qs out = manyBy (manyVerdict x curve tags slots qs (length out)) (answersAfter f x curve tags slots qs out) out

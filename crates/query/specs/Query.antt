@@ -1,11 +1,12 @@
 -- 01, Queries, settings and growth
-use Prim.Native.Nat.{ℕ, zero, suc, _+_, _-_, _*_}
+use Prim.Native.Nat as nat
+use Prim.Native.Nat.{ℕ, suc, _+_, _-_, _*_}
 use mathlib.Core.Bool.{Bool, true, false, cond, not, _&&_, _||_}
 use mathlib.Core.List.{List, [], _∷_, _++_}
 use lib.Dec.{eqb, ltb, leb}
 use lib.Ieee.{Float, lt, le, ne}
 use lib.ListN.{length}
-use Rattle.numbers.specs.Words.{nought}
+use Rattle.numbers.specs.Words.{zero}
 use Rattle.section.specs.EverywhereConstant as constant
 use Rattle.section.specs.Section as section
 use Rattle.section.specs.declared.section.Section.{Section}
@@ -22,11 +23,11 @@ use Rattle.refusal.specs.declared.Verdict.the-variants as verdict
 use Rattle.table.specs.Check.{allFinite, rising}
 use Rattle.table.specs.Table.{at}
 use Rattle.curve.specs.declared.curve.Curve.{Curve}
-use Rattle.query.specs.declared.asked.Covered.{Covered}
-use Rattle.query.specs.declared.asked.Covered.the-variants as covered
-use Rattle.query.specs.declared.asked.Asked.{Asked}
-use Rattle.query.specs.declared.asked.Asked.the-variants as asked
-use Rattle.query.specs.declared.asked.ToldNumber.{ToldNumber}
+use Rattle.query.specs.declared.answer.Covered.{Covered}
+use Rattle.query.specs.declared.answer.Covered.the-variants as covered
+use Rattle.query.specs.declared.answer.QueryAnswer.{QueryAnswer}
+use Rattle.query.specs.declared.answer.QueryAnswer.the-variants as query-answer
+use Rattle.query.specs.declared.answer.ToldNumber.{ToldNumber}
 
 -- a query reads the record and whether it may leave the knots, and no more
 abbrev pub curveWith : Float → Float → Float → Bool → Curve
@@ -55,7 +56,7 @@ queryTests x curve tags slots q = curveTests x tags slots ++ pointTests x curve 
 
 -- the number of inner knots at or below the query, walked from the first: the section that covers it
 unfoldable pub walk : List Float → Float → ℕ → ℕ → ℕ
-walk x q i zero = i
+walk x q i nat.zero = i
 walk x q i (suc left) = cond (lt q (at x (i + 1))) i (walk x q (i + 1) left)
 
 abbrev pub placeOf : List Float → Float → ℕ
@@ -81,11 +82,11 @@ abbrev pub coveredAt : List Float → Curve → List ℕ → List Float → Floa
 coveredAt x curve tags slots q = coveredOf (first (queryTests x curve (length tags) (length slots) q)) (covering x curve tags slots q)
 
 -- what the section that answers gives, or the refusal
-abbrev pub ask : (Section → Float) → Covered → Asked
-ask f (covered.Section s) = asked.Number (f s)
-ask f (covered.Refused r) = asked.Refused r
+abbrev pub ask : (Section → Float) → Covered → QueryAnswer
+ask f (covered.Section s) = query-answer.Number (f s)
+ask f (covered.Refused r) = query-answer.Refused r
 
 -- a refusal's number, or 0, with the answer
-abbrev pub toldNumber : Asked → ToldNumber
-toldNumber (asked.Number v) = record { refusal = 0; answer = v }
-toldNumber (asked.Refused r) = record { refusal = number r; answer = nought }
+abbrev pub toldNumber : QueryAnswer → ToldNumber
+toldNumber (query-answer.Number v) = record { refusal = 0; answer = v }
+toldNumber (query-answer.Refused r) = record { refusal = number r; answer = zero }

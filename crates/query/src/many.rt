@@ -1,6 +1,6 @@
 // Prices, or running totals, at many points of one curve. The knots are checked once, and nothing is written where any query is refused.
-use crate::asked::curve_verdict;
-use crate::asked::point_verdict;
+use crate::answer::curve_verdict;
+use crate::answer::point_verdict;
 use crate::number::Wanted;
 use crate::number::record_number;
 use crate::number::tail_number;
@@ -15,18 +15,19 @@ ghost use mathlib.Core.Path.{_≡_};
 ghost use mathlib.Core.Bool.{true};
 ghost use Prim.Native.Nat.{_+_, _-_, _*_, _≤_, _<_};
 ghost use lib.ListN.{length};
+ghost use Rattle.numbers.specs.Sizes.{slotCount};
 ghost use Rattle.numbers.specs.Every.{allBelow};
 ghost use Rattle.section.specs.Section.{value, primitive};
 ghost use Rattle.record.specs.Reading.{isSection, recordAt};
 ghost use Rattle.refusal.specs.Refusal.{first};
 ghost use Rattle.refusal.specs.declared.Verdict.the-variants.{Accepted};
-ghost use Rattle.assembly.specs.Making.{left};
+ghost use Rattle.numbers.specs.OneOutcome.{pair};
 ghost use Rattle.query.specs.Query.{curveTests, covering, coveredAt};
 ghost use Rattle.query.specs.Number.{figure};
-ghost use Rattle.query.specs.Many.{verdictOf, queriesVerdict, manyVerdict, answersAfter};
+ghost use Rattle.query.specs.Many.{verdictOf, queriesVerdict, manyVerdict, answersAfter, manyOutcome};
 
 fn legal_at(tags: &[u16], slots: &[f64], i: usize) -> bool
-    requires { ⌜ (i < length (now tags)) × (24 * i + 24 ≤ length (now slots)) × (i < 4096) ⌝ }
+    requires { ⌜ (i < length (now tags)) × (slotCount * i + slotCount ≤ length (now slots)) × (i < 4096) ⌝ }
     ensures { λ r. ⌜ r ≡ isSection (recordAt (now (tags .entry)) (now (slots .entry)) i) ⌝ }
 {
     let from = SLOTS * i;
@@ -35,7 +36,7 @@ fn legal_at(tags: &[u16], slots: &[f64], i: usize) -> bool
 
 // Whether every record is legal. Then no query needs to look at its own.
 fn all_legal(tags: &[u16], slots: &[f64], sections: usize) -> bool
-    requires { ⌜ (sections ≤ length (now tags)) × (24 * sections ≤ length (now slots)) × (sections ≤ 4096) ⌝ }
+    requires { ⌜ (sections ≤ length (now tags)) × (slotCount * sections ≤ length (now slots)) × (sections ≤ 4096) ⌝ }
     ensures { λ r. ⌜ r ≡ allBelow sections (λ i. isSection (recordAt (now (tags .entry)) (now (slots .entry)) i)) ⌝ }
 {
     for i in 0..sections {
@@ -138,7 +139,7 @@ fn fill(
             continue;
         }
         at = place_from(xs, q, at);
-        out[i] = record_number(wanted, tags, slots, at, q).or_nought();
+        out[i] = record_number(wanted, tags, slots, at, q).or_zero();
     }
 }
 
@@ -174,8 +175,7 @@ fn answers(
     qs: &[f64],
     out: &mut [f64],
 ) -> Verdict
-    ensures verdict { λ r. ⌜ r ≡ manyVerdict (now (xs .entry)) curve (now (tags .entry)) (now (slots .entry)) (now (qs .entry)) (length (now (out .entry))) ⌝ }
-    ensures out { λ _. ⌜ now (out .exit) ≡ left (manyVerdict (now (xs .entry)) curve (now (tags .entry)) (now (slots .entry)) (now (qs .entry)) (length (now (out .entry)))) (answersAfter (figure wanted) (now (xs .entry)) curve (now (tags .entry)) (now (slots .entry)) (now (qs .entry)) (now (out .entry))) (now (out .entry)) ⌝ }
+    ensures { λ r. ⌜ pair r (now (out .exit)) ≡ manyOutcome (figure wanted) (now (xs .entry)) curve (now (tags .entry)) (now (slots .entry)) (now (qs .entry)) (now (out .entry)) ⌝ }
 {
     let verdict = many_verdict(xs, curve, tags, slots, qs, out.len());
     match verdict {
@@ -196,8 +196,7 @@ pub fn values(
     qs: &[f64],
     out: &mut [f64],
 ) -> Verdict
-    ensures verdict { λ r. ⌜ r ≡ manyVerdict (now (xs .entry)) curve (now (tags .entry)) (now (slots .entry)) (now (qs .entry)) (length (now (out .entry))) ⌝ }
-    ensures out { λ _. ⌜ now (out .exit) ≡ left (manyVerdict (now (xs .entry)) curve (now (tags .entry)) (now (slots .entry)) (now (qs .entry)) (length (now (out .entry)))) (answersAfter value (now (xs .entry)) curve (now (tags .entry)) (now (slots .entry)) (now (qs .entry)) (now (out .entry))) (now (out .entry)) ⌝ }
+    ensures { λ r. ⌜ pair r (now (out .exit)) ≡ manyOutcome value (now (xs .entry)) curve (now (tags .entry)) (now (slots .entry)) (now (qs .entry)) (now (out .entry)) ⌝ }
 {
     answers(Wanted::Price, xs, curve, tags, slots, qs, out)
 }
@@ -211,8 +210,7 @@ pub fn primitives(
     qs: &[f64],
     out: &mut [f64],
 ) -> Verdict
-    ensures verdict { λ r. ⌜ r ≡ manyVerdict (now (xs .entry)) curve (now (tags .entry)) (now (slots .entry)) (now (qs .entry)) (length (now (out .entry))) ⌝ }
-    ensures out { λ _. ⌜ now (out .exit) ≡ left (manyVerdict (now (xs .entry)) curve (now (tags .entry)) (now (slots .entry)) (now (qs .entry)) (length (now (out .entry)))) (answersAfter primitive (now (xs .entry)) curve (now (tags .entry)) (now (slots .entry)) (now (qs .entry)) (now (out .entry))) (now (out .entry)) ⌝ }
+    ensures { λ r. ⌜ pair r (now (out .exit)) ≡ manyOutcome primitive (now (xs .entry)) curve (now (tags .entry)) (now (slots .entry)) (now (qs .entry)) (now (out .entry)) ⌝ }
 {
     answers(Wanted::Total, xs, curve, tags, slots, qs, out)
 }

@@ -8,6 +8,7 @@ use section::everywhere_constant::EverywhereConstant;
 ghost use mathlib.Core.Path.{_≡_};
 ghost use Prim.Native.Nat.{_+_, _*_, _≤_, _<_};
 ghost use lib.ListN.{length};
+ghost use Rattle.numbers.specs.Sizes.{slotCount};
 ghost use Rattle.record.specs.Number.{answerIn};
 ghost use Rattle.record.specs.Reading.{recordAt};
 ghost use Rattle.query.specs.Query.{tailSection};
@@ -33,7 +34,7 @@ pub(crate) fn tail_number(curve: Curve, wanted: Wanted, q: f64) -> f64
 
 // What the record of section i answers. All who ask a record come through here: what is called from one place only is compiled into it.
 pub(crate) fn record_number(wanted: Wanted, tags: &[u16], slots: &[f64], i: usize, q: f64) -> Answer
-    requires { ⌜ (i < length (now tags)) × (24 * i + 24 ≤ length (now slots)) × (i < 4096) ⌝ }
+    requires { ⌜ (i < length (now tags)) × (slotCount * i + slotCount ≤ length (now slots)) × (i < 4096) ⌝ }
     ensures { λ r. ⌜ r ≡ answerIn (λ s. figure wanted s q) (recordAt (now (tags .entry)) (now (slots .entry)) i) ⌝ }
 {
     let tag = tags[i];

@@ -6,7 +6,7 @@ ghost use Prim.Native.Nat.{_+_, _≤_, _<_};
 ghost use lib.ListN.{length};
 ghost use Rattle.table.specs.Check.{rising};
 ghost use Rattle.query.specs.Query.{placeOf};
-ghost use Rattle.query.specs.Many.{covers};
+ghost use Rattle.query.specs.Steps.{covers};
 
 // Whether a query lies in section i, by the knots at its two ends.
 fn covers(xs: &[f64], q: f64, i: usize) -> bool

@@ -1,6 +1,6 @@
 // The price, or the running total, at one point of a curve. Knots that passed the tests rise, so the place is searched for and not walked to.
-use crate::asked::Asked;
-use crate::asked::query_verdict;
+use crate::answer::QueryAnswer;
+use crate::answer::query_verdict;
 use crate::number::Wanted;
 use crate::number::record_number;
 use crate::number::tail_number;
@@ -38,28 +38,35 @@ fn covering_number(
 }
 
 // What is wanted at q, or the first refusal.
-fn asked(wanted: Wanted, xs: &[f64], curve: Curve, tags: &[u16], slots: &[f64], q: f64) -> Asked
+fn answer_at(
+    wanted: Wanted,
+    xs: &[f64],
+    curve: Curve,
+    tags: &[u16],
+    slots: &[f64],
+    q: f64,
+) -> QueryAnswer
     ensures { λ r. ⌜ r ≡ ask (λ s. figure wanted s q) (coveredAt (now (xs .entry)) curve (now (tags .entry)) (now (slots .entry)) q) ⌝ }
 {
     match query_verdict(xs, curve, tags.len(), slots.len(), q) {
-        Verdict::Refused(refusal) => Asked::Refused(refusal),
+        Verdict::Refused(refusal) => QueryAnswer::Refused(refusal),
         Verdict::Accepted => match covering_number(wanted, xs, curve, tags, slots, q) {
-            Answer::Number(number) => Asked::Number(number),
-            Answer::Illegal => Asked::Refused(Refusal::RecordNotLegal),
+            Answer::Number(number) => QueryAnswer::Number(number),
+            Answer::Illegal => QueryAnswer::Refused(Refusal::RecordNotLegal),
         },
     }
 }
 
 // The price at q.
-pub fn value(xs: &[f64], curve: Curve, tags: &[u16], slots: &[f64], q: f64) -> Asked
+pub fn value(xs: &[f64], curve: Curve, tags: &[u16], slots: &[f64], q: f64) -> QueryAnswer
     ensures { λ r. ⌜ r ≡ ask (λ s. value s q) (coveredAt (now (xs .entry)) curve (now (tags .entry)) (now (slots .entry)) q) ⌝ }
 {
-    asked(Wanted::Price, xs, curve, tags, slots, q)
+    answer_at(Wanted::Price, xs, curve, tags, slots, q)
 }
 
 // The total of all prices up to q.
-pub fn primitive(xs: &[f64], curve: Curve, tags: &[u16], slots: &[f64], q: f64) -> Asked
+pub fn primitive(xs: &[f64], curve: Curve, tags: &[u16], slots: &[f64], q: f64) -> QueryAnswer
     ensures { λ r. ⌜ r ≡ ask (λ s. primitive s q) (coveredAt (now (xs .entry)) curve (now (tags .entry)) (now (slots .entry)) q) ⌝ }
 {
-    asked(Wanted::Total, xs, curve, tags, slots, q)
+    answer_at(Wanted::Total, xs, curve, tags, slots, q)
 }

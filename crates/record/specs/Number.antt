@@ -1,6 +1,6 @@
 -- 01, Buffers and section records: the number that a record answers
 use lib.Ieee.{Float}
-use Rattle.numbers.specs.Words.{_⊕_, _⊖_, _⊗_, one, nought}
+use Rattle.numbers.specs.Words.{_⊕_, _⊖_, _⊗_, one, zero}
 use Rattle.section.specs.declared.section.Section.{Section}
 use Rattle.section.specs.declared.section.Section.the-variants as section
 use Rattle.section.specs.QuadraticPart as quadraticPart
@@ -21,9 +21,9 @@ abbrev pub answerIn : (Section → Float) → Found → Answer
 answerIn f (found.Section s) = answer.Number (f s)
 answerIn f found.Illegal = answer.Illegal
 
-abbrev pub orNought : Answer → Float
-orNought (answer.Number v) = v
-orNought answer.Illegal = nought
+abbrev pub orZero : Answer → Float
+orZero (answer.Number v) = v
+orZero answer.Illegal = zero
 
 -- The rest is said of private functions only. A part's number is f of the part as a section by itself.
 unfoldable pub quadraticNumber : (Section → Float) → QuadraticFound → Part

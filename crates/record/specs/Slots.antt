@@ -3,7 +3,7 @@ use Prim.Native.Nat.{ℕ}
 use mathlib.Core.List.{List, [], _∷_, _++_}
 use lib.Ieee.{Float}
 use lib.ListN.{replicate}
-use Rattle.numbers.specs.Words.{nought, one}
+use Rattle.numbers.specs.Words.{zero, one}
 use Rattle.section.specs.declared.everywhere_constant.EverywhereConstant.{EverywhereConstant}
 use Rattle.section.specs.declared.constant_grad.ConstantGrad.{ConstantGrad}
 use Rattle.convex.specs.declared.convex_monotone2.ConvexMonotone2.{ConvexMonotone2}
@@ -24,7 +24,7 @@ abbrev pub layout : Float → List Float → List Float → List Float
 layout weight quadratic other = weight ∷ (quadratic ++ other)
 
 abbrev pub none : ℕ → List Float
-none n = replicate n nought
+none n = replicate n zero
 
 unfoldable pub quadraticSlots : QuadraticPart → List Float
 quadraticSlots (quadratic.Quadratic s) =
@@ -45,13 +45,13 @@ convexSlots (convex.ConvexMonotone4Min s) =
 
 unfoldable pub slotsOf : Section → List Float
 unfolding quadraticSlots convexSlots
-slotsOf (section.EverywhereConstant s) = layout nought (none 12) (s .value ∷ s .«prev_primitive» ∷ s .«x_prev» ∷ none 8)
+slotsOf (section.EverywhereConstant s) = layout zero (none 12) (s .value ∷ s .«prev_primitive» ∷ s .«x_prev» ∷ none 8)
 slotsOf (section.ConstantGrad s) =
-    layout nought (none 12) (s .«f_prev» ∷ s .«prev_primitive» ∷ s .«x_prev» ∷ s .«f_grad» ∷ s .«f_next» ∷ none 6)
-slotsOf (section.ConvexMonotone2 s) = layout nought (none 12) (convexSlots (convex.ConvexMonotone2 s))
-slotsOf (section.ConvexMonotone3 s) = layout nought (none 12) (convexSlots (convex.ConvexMonotone3 s))
-slotsOf (section.ConvexMonotone4 s) = layout nought (none 12) (convexSlots (convex.ConvexMonotone4 s))
-slotsOf (section.ConvexMonotone4Min s) = layout nought (none 12) (convexSlots (convex.ConvexMonotone4Min s))
+    layout zero (none 12) (s .«f_prev» ∷ s .«prev_primitive» ∷ s .«x_prev» ∷ s .«f_grad» ∷ s .«f_next» ∷ none 6)
+slotsOf (section.ConvexMonotone2 s) = layout zero (none 12) (convexSlots (convex.ConvexMonotone2 s))
+slotsOf (section.ConvexMonotone3 s) = layout zero (none 12) (convexSlots (convex.ConvexMonotone3 s))
+slotsOf (section.ConvexMonotone4 s) = layout zero (none 12) (convexSlots (convex.ConvexMonotone4 s))
+slotsOf (section.ConvexMonotone4Min s) = layout zero (none 12) (convexSlots (convex.ConvexMonotone4Min s))
 slotsOf (section.Quadratic s) = layout one (quadraticSlots (quadratic.Quadratic s)) (none 11)
 slotsOf (section.QuadraticMin s) = layout one (quadraticSlots (quadratic.QuadraticMin s)) (none 11)
 slotsOf (section.Combination s) = layout (s .quadraticity) (quadraticSlots (s .«quadratic_helper»)) (convexSlots (s .«conv_mono_helper»))

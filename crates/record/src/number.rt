@@ -14,7 +14,7 @@ ghost use lib.ListN.{length};
 ghost use Rattle.section.specs.Section.{value, primitive};
 ghost use Rattle.numbers.specs.Sizes.{slotCount};
 ghost use Rattle.record.specs.Reading.{quadraticFrom, otherFrom, readSection};
-ghost use Rattle.record.specs.Number.{answerIn, orNought, quadraticNumber, otherNumber, together};
+ghost use Rattle.record.specs.Number.{answerIn, orZero, quadraticNumber, otherNumber, together};
 
 // What a record answers.
 pub enum Answer {
@@ -24,8 +24,8 @@ pub enum Answer {
 
 impl Answer {
     // The number, and +0.0 where there is none.
-    pub fn or_nought(self) -> f64
-        ensures { λ r. ⌜ r ≡ orNought self ⌝ }
+    pub fn or_zero(self) -> f64
+        ensures { λ r. ⌜ r ≡ orZero self ⌝ }
     {
         match self {
             Answer::Number(number) => number,

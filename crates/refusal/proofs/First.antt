@@ -17,13 +17,14 @@ abbrev pub Passed : List Test → Type 0
 Passed [] = Unit {0}
 Passed (t ∷ ts) = (t .holds ≡ false) × Passed ts
 
-head : (b : Bool) (r : Refusal) (v : Verdict) → cond b (Refused r) v ≡ Accepted → (b ≡ false) × (v ≡ Accepted)
-head true r v h = never (ap isAccepted h) refl
-head false r v h = (refl, h)
+-- one test passed, and what comes after it accepts
+pub next : (b : Bool) (r : Refusal) (v : Verdict) → cond b (Refused r) v ≡ Accepted → (b ≡ false) × (v ≡ Accepted)
+next true r v h = never (ap isAccepted h) refl
+next false r v h = (refl, h)
 
 pub passed : (ts : List Test) → first ts ≡ Accepted → Passed ts
 passed [] h = tt
-passed (t ∷ ts) h = let p = head (t .holds) (t .refusal) (first ts) h in (p .0, passed ts (p .1))
+passed (t ∷ ts) h = let p = next (t .holds) (t .refusal) (first ts) h in (p .0, passed ts (p .1))
 
 -- and what passes every test is accepted
 pub accepted : (ts : List Test) → Passed ts → first ts ≡ Accepted

@@ -8,7 +8,7 @@ use crate::records;
 use crate::words::MOST;
 use curve::curve::Curve;
 use numbers::SLOTS;
-use query::asked::Asked;
+use query::answer::QueryAnswer;
 
 // A line `b REFUSAL SECTIONS`: whether the build or growth went as it tells.
 pub(crate) fn went(outcome: Outcome, words: &[u64; MOST]) -> bool {
@@ -87,15 +87,15 @@ pub(crate) fn nodes_agree(kept: Kept, words: &[u64; MOST]) -> bool {
 }
 
 // A refusal is told with zeros.
-fn same(asked: Asked, refusal: u64, number: u64) -> bool {
+fn same(asked: QueryAnswer, refusal: u64, number: u64) -> bool {
     match asked {
-        Asked::Number(y) => {
+        QueryAnswer::Number(y) => {
             if refusal != 0 {
                 return false;
             }
             numbers::to_bits(y) == number
         }
-        Asked::Refused(r) => {
+        QueryAnswer::Refused(r) => {
             if kept::wide(r.number()) != refusal {
                 return false;
             }

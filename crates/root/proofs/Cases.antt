@@ -1,5 +1,6 @@
 -- The root of each kind of number, by the tests that the code makes.
-use Prim.Native.Nat.{ℕ, zero, suc, _+_, _*_, _^_, _<_}
+use Prim.Native.Nat as nat
+use Prim.Native.Nat.{ℕ, suc, _+_, _*_, _^_, _<_}
 use native.Mathlib.Omega.{arith}
 use mathlib.Core.Bool.{Bool, true, false, not}
 use mathlib.Core.Path.{_≡_, refl, sym, ap, subst, _∙_}
@@ -7,7 +8,7 @@ use lib.IntN.{ℤ}
 use lib.Dec.{T}
 use borrow.Author.Tests.{le-ltb}
 use lib.Ieee.{Float, nan, inf, fin, binary64, lt, le, eq, ne, up, down, div, fits, isNan, toBits, ofBits, nanBits}
-use Rattle.numbers.specs.Words.{nought, finite}
+use Rattle.numbers.specs.Words.{zero, finite}
 use Rattle.numbers.proofs.Ways.{never}
 use Rattle.numbers.proofs.Signs.{zero-is-zero, nonzero-is-not, minus-is-below, plus-is-not-below}
 use Rattle.root.specs.Root.{root, inUnits}
@@ -15,24 +16,24 @@ use Rattle.root.specs.Bits.{rootBits, unitsOfBits}
 use Rattle.root.proofs.Units.{Fit, fit, Parts, parts-of, units-high, k-high, bits-are, units-of-bits}
 use Rattle.root.proofs.Result.{result, result-number}
 
-pub root-zero : (a : Float) → eq a nought ≡ true → a ≡ root a
+pub root-zero : (a : Float) → eq a zero ≡ true → a ≡ root a
 unfolding root eq ofBits
 root-zero nan h = refl
 root-zero (inf true) h = cc
 root-zero (inf false) h = refl
-root-zero (fin s zero e) h = refl
+root-zero (fin s nat.zero e) h = refl
 root-zero (fin s (suc m) e) h = cc (nonzero-is-not s m e)
 
-pub root-below : (a : Float) → eq a nought ≡ false → lt a nought ≡ true → div binary64 nought nought ≡ root a
+pub root-below : (a : Float) → eq a zero ≡ false → lt a zero ≡ true → div binary64 zero zero ≡ root a
 unfolding root lt div ofBits
 root-below nan k h = refl
 root-below (inf true) k h = refl
 root-below (inf false) k h = cc
-root-below (fin s zero e) k h = cc (zero-is-zero s e)
+root-below (fin s nat.zero e) k h = cc (zero-is-zero s e)
 root-below (fin true (suc m) e) k h = refl
 root-below (fin false (suc m) e) k h = never h (plus-is-not-below (suc m) e)
 
-pub root-not-finite : (a : Float) → lt a nought ≡ false → finite a ≡ false → a ≡ root a
+pub root-not-finite : (a : Float) → lt a zero ≡ false → finite a ≡ false → a ≡ root a
 unfolding root lt finite ofBits
 root-not-finite nan k h = refl
 root-not-finite (inf true) k h = cc
@@ -43,22 +44,22 @@ root-not-finite (fin s m e) k h = cc
 abbrev pub Positive : Float → Type 0
 Positive a = (m : ℕ) × (e : ℤ) × (fin false (suc m) e ≡ a)
 
-pub is-positive : (a : Float) → eq a nought ≡ false → lt a nought ≡ false → finite a ≡ true → Positive a
+pub is-positive : (a : Float) → eq a zero ≡ false → lt a zero ≡ false → finite a ≡ true → Positive a
 unfolding finite
 is-positive nan z k h = never h refl
 is-positive (inf s) z k h = never h refl
-is-positive (fin s zero e) z k h = never (zero-is-zero s e) z
+is-positive (fin s nat.zero e) z k h = never (zero-is-zero s e) z
 is-positive (fin true (suc m) e) z k h = never (minus-is-below m e) k
 is-positive (fin false (suc m) e) z k h = (m, e, refl)
 
 -- the two tests that come first: above 0.0, and at most the largest finite number
-pub above-zero : (a : Float) → lt nought a ≡ true → le a (ofBits binary64 0x7fef_ffff_ffff_ffff) ≡ true → Positive a
+pub above-zero : (a : Float) → lt zero a ≡ true → le a (ofBits binary64 0x7fef_ffff_ffff_ffff) ≡ true → Positive a
 unfolding lt le eq ofBits
 above-zero nan h k = never h refl
 above-zero (inf true) h k = never h refl
 above-zero (inf false) h k = never k refl
 above-zero (fin true m e) h k = never h refl
-above-zero (fin false zero e) h k = never h (le-ltb (0 * 1 * down e) (0 * up e * 1) (omega arith))
+above-zero (fin false nat.zero e) h k = never h (le-ltb (0 * 1 * down e) (0 * up e * 1) (omega arith))
 above-zero (fin false (suc m) e) h k = (m, e, refl)
 
 pub positive-number : (a : Float) → Positive a → T (not (isNan a))

@@ -1,4 +1,4 @@
--- A number q of 1 to 53 binary digits, times 2 ^ k, brought to document 01's size by its leading zeros.
+-- A number q of 1 to 53 binary digits, times 2 ^ k, normalised to the size of document 01 by its leading zeros.
 use Prim.Native.Nat.{ℕ, zero, suc, _+_, _-_, _*_, _/_, _%_, _^_, _≤_, _<_}
 use native.Mathlib.Omega.{arith}
 use native.Mathlib.Nat.{eq-zero-or-pos, le-of-eq, suc-mul, mul-one, mul-assoc, mul-div-cancel, mul-le-mul-right, le-trans, le-of-suc-le-suc, lt-of-le-of-lt, suc-add, mod-eq-of-lt}

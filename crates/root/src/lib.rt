@@ -114,7 +114,7 @@ fn settle(s: u64, g: u64) -> u64
 }
 
 // A significand of 53 digits, or twice that where the exponent is odd. They come together: above the 52 digits that are written stands the exponent's last digit.
-fn brought(m: u64) -> u64
+fn normalise(m: u64) -> u64
     requires { ⌜ m < 2 ^ 53 ⌝ }
     ensures { λ r. ⌜ r ≡ (m % 2 ^ 52 + 2 ^ 52) * (m / 2 ^ 52 + 1) ⌝ }
 {
@@ -138,7 +138,7 @@ fn normal(a: f64, bits: u64) -> u64
         return 0;
     }
     let g = f64::to_bits(x) % 0x10_0000_0000_0000 + 0x10_0000_0000_0000;
-    let r = settle(brought(m), g);
+    let r = settle(normalise(m), g);
     if r == 0 {
         return 0;
     }

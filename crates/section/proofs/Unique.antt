@@ -1,85 +1,95 @@
--- Any two answers that a contract allows are the same, of the contract as the checker reads it: one line for each public function.
-use mathlib.Core.List.{List}
+-- Any two outcomes that a contract allows are the same, of each contract as the checker reads it.
 use mathlib.Core.Path.{_≡_, _∙_, sym}
-use contract.Lifetimes.{Lfts}
-use borrow.Fn.Kinds as K
-use denote.Triple.Clauses.{AtExit}
-use Rattle.section.proofs.everywhere_constant.EverywhereConstant as constant
-use Rattle.section.proofs.constant_grad.ConstantGrad as grad
-use Rattle.section.proofs.combination.Combination as combination
-use Rattle.section.proofs.quadratic_part.QuadraticPart as part
-use Rattle.section.proofs.convex_monotone_part.ConvexMonotonePart as other
-use Rattle.section.proofs.section.Section as section
+use Rattle.numbers.specs.OneOutcome.{OneAnswer}
+use Rattle.section.proofs.combination.Combination.new.Reads as combination-new
+use Rattle.section.proofs.combination.Combination.value.Reads as combination-value
+use Rattle.section.proofs.combination.Combination.primitive.Reads as combination-primitive
+use Rattle.section.proofs.combination.Combination.f_next.Reads as combination-f-next
+use Rattle.section.proofs.constant_grad.ConstantGrad.new.Reads as constant-grad-new
+use Rattle.section.proofs.constant_grad.ConstantGrad.value.Reads as constant-grad-value
+use Rattle.section.proofs.constant_grad.ConstantGrad.primitive.Reads as constant-grad-primitive
+use Rattle.section.proofs.constant_grad.ConstantGrad.f_next.Reads as constant-grad-f-next
+use Rattle.section.proofs.convex_monotone_part.ConvexMonotonePart.value.Reads as convex-monotone-part-value
+use Rattle.section.proofs.convex_monotone_part.ConvexMonotonePart.primitive.Reads as convex-monotone-part-primitive
+use Rattle.section.proofs.convex_monotone_part.ConvexMonotonePart.f_next.Reads as convex-monotone-part-f-next
+use Rattle.section.proofs.convex_monotone_part.ConvexMonotonePart.alone.Reads as convex-monotone-part-alone
+use Rattle.section.proofs.everywhere_constant.EverywhereConstant.new.Reads as everywhere-constant-new
+use Rattle.section.proofs.everywhere_constant.EverywhereConstant.value.Reads as everywhere-constant-value
+use Rattle.section.proofs.everywhere_constant.EverywhereConstant.primitive.Reads as everywhere-constant-primitive
+use Rattle.section.proofs.everywhere_constant.EverywhereConstant.f_next.Reads as everywhere-constant-f-next
+use Rattle.section.proofs.quadratic_part.QuadraticPart.value.Reads as quadratic-part-value
+use Rattle.section.proofs.quadratic_part.QuadraticPart.primitive.Reads as quadratic-part-primitive
+use Rattle.section.proofs.quadratic_part.QuadraticPart.f_next.Reads as quadratic-part-f-next
+use Rattle.section.proofs.quadratic_part.QuadraticPart.alone.Reads as quadratic-part-alone
+use Rattle.section.proofs.section.Section.value.Reads as section-value
+use Rattle.section.proofs.section.Section.primitive.Reads as section-primitive
+use Rattle.section.proofs.section.Section.f_next.Reads as section-f-next
 
--- of a function with parameters ps and result r, all by value, whose `ensures` is Post
-abbrev Unique : (ps : List (K.PK 0)) (r : K.RK 0) → K.Out 0 ps r → Type 0
-Unique ps r Post = (κs : Lfts 0) (a : K.Dens κs ps) (r₁ r₂ : K.resT r κs .Denot) (s₁ s₂ : AtExit (K.endedOf 0 ps r) κs) → Post κs a r₁ s₁ → Post κs a r₂ s₂ → r₁ ≡ r₂
+pub combination-new-unique : OneAnswer combination-new.Post
+combination-new-unique κ a r₁ r₂ s t p q = p ∙ sym q
 
-pub constant-new : Unique constant.new.Kinds.ps constant.new.Kinds.r constant.new.Reads.Post
-constant-new κs a r₁ r₂ s₁ s₂ p q = p ∙ sym q
+pub combination-value-unique : OneAnswer combination-value.Post
+combination-value-unique κ a r₁ r₂ s t p q = p ∙ sym q
 
-pub constant-value : Unique constant.value.Kinds.ps constant.value.Kinds.r constant.value.Reads.Post
-constant-value κs a r₁ r₂ s₁ s₂ p q = p ∙ sym q
+pub combination-primitive-unique : OneAnswer combination-primitive.Post
+combination-primitive-unique κ a r₁ r₂ s t p q = p ∙ sym q
 
-pub constant-primitive : Unique constant.primitive.Kinds.ps constant.primitive.Kinds.r constant.primitive.Reads.Post
-constant-primitive κs a r₁ r₂ s₁ s₂ p q = p ∙ sym q
+pub combination-f-next-unique : OneAnswer combination-f-next.Post
+combination-f-next-unique κ a r₁ r₂ s t p q = p ∙ sym q
 
-pub constant-f-next : Unique constant.f_next.Kinds.ps constant.f_next.Kinds.r constant.f_next.Reads.Post
-constant-f-next κs a r₁ r₂ s₁ s₂ p q = p ∙ sym q
+pub constant-grad-new-unique : OneAnswer constant-grad-new.Post
+constant-grad-new-unique κ a r₁ r₂ s t p q = p ∙ sym q
 
-pub grad-new : Unique grad.new.Kinds.ps grad.new.Kinds.r grad.new.Reads.Post
-grad-new κs a r₁ r₂ s₁ s₂ p q = p ∙ sym q
+pub constant-grad-value-unique : OneAnswer constant-grad-value.Post
+constant-grad-value-unique κ a r₁ r₂ s t p q = p ∙ sym q
 
-pub grad-value : Unique grad.value.Kinds.ps grad.value.Kinds.r grad.value.Reads.Post
-grad-value κs a r₁ r₂ s₁ s₂ p q = p ∙ sym q
+pub constant-grad-primitive-unique : OneAnswer constant-grad-primitive.Post
+constant-grad-primitive-unique κ a r₁ r₂ s t p q = p ∙ sym q
 
-pub grad-primitive : Unique grad.primitive.Kinds.ps grad.primitive.Kinds.r grad.primitive.Reads.Post
-grad-primitive κs a r₁ r₂ s₁ s₂ p q = p ∙ sym q
+pub constant-grad-f-next-unique : OneAnswer constant-grad-f-next.Post
+constant-grad-f-next-unique κ a r₁ r₂ s t p q = p ∙ sym q
 
-pub grad-f-next : Unique grad.f_next.Kinds.ps grad.f_next.Kinds.r grad.f_next.Reads.Post
-grad-f-next κs a r₁ r₂ s₁ s₂ p q = p ∙ sym q
+pub convex-monotone-part-value-unique : OneAnswer convex-monotone-part-value.Post
+convex-monotone-part-value-unique κ a r₁ r₂ s t p q = p ∙ sym q
 
-pub combination-new : Unique combination.new.Kinds.ps combination.new.Kinds.r combination.new.Reads.Post
-combination-new κs a r₁ r₂ s₁ s₂ p q = p ∙ sym q
+pub convex-monotone-part-primitive-unique : OneAnswer convex-monotone-part-primitive.Post
+convex-monotone-part-primitive-unique κ a r₁ r₂ s t p q = p ∙ sym q
 
-pub combination-value : Unique combination.value.Kinds.ps combination.value.Kinds.r combination.value.Reads.Post
-combination-value κs a r₁ r₂ s₁ s₂ p q = p ∙ sym q
+pub convex-monotone-part-f-next-unique : OneAnswer convex-monotone-part-f-next.Post
+convex-monotone-part-f-next-unique κ a r₁ r₂ s t p q = p ∙ sym q
 
-pub combination-primitive : Unique combination.primitive.Kinds.ps combination.primitive.Kinds.r combination.primitive.Reads.Post
-combination-primitive κs a r₁ r₂ s₁ s₂ p q = p ∙ sym q
+pub convex-monotone-part-alone-unique : OneAnswer convex-monotone-part-alone.Post
+convex-monotone-part-alone-unique κ a r₁ r₂ s t p q = p ∙ sym q
 
-pub combination-f-next : Unique combination.f_next.Kinds.ps combination.f_next.Kinds.r combination.f_next.Reads.Post
-combination-f-next κs a r₁ r₂ s₁ s₂ p q = p ∙ sym q
+pub everywhere-constant-new-unique : OneAnswer everywhere-constant-new.Post
+everywhere-constant-new-unique κ a r₁ r₂ s t p q = p ∙ sym q
 
-pub part-value : Unique part.value.Kinds.ps part.value.Kinds.r part.value.Reads.Post
-part-value κs a r₁ r₂ s₁ s₂ p q = p ∙ sym q
+pub everywhere-constant-value-unique : OneAnswer everywhere-constant-value.Post
+everywhere-constant-value-unique κ a r₁ r₂ s t p q = p ∙ sym q
 
-pub part-primitive : Unique part.primitive.Kinds.ps part.primitive.Kinds.r part.primitive.Reads.Post
-part-primitive κs a r₁ r₂ s₁ s₂ p q = p ∙ sym q
+pub everywhere-constant-primitive-unique : OneAnswer everywhere-constant-primitive.Post
+everywhere-constant-primitive-unique κ a r₁ r₂ s t p q = p ∙ sym q
 
-pub part-f-next : Unique part.f_next.Kinds.ps part.f_next.Kinds.r part.f_next.Reads.Post
-part-f-next κs a r₁ r₂ s₁ s₂ p q = p ∙ sym q
+pub everywhere-constant-f-next-unique : OneAnswer everywhere-constant-f-next.Post
+everywhere-constant-f-next-unique κ a r₁ r₂ s t p q = p ∙ sym q
 
-pub part-alone : Unique part.alone.Kinds.ps part.alone.Kinds.r part.alone.Reads.Post
-part-alone κs a r₁ r₂ s₁ s₂ p q = p ∙ sym q
+pub quadratic-part-value-unique : OneAnswer quadratic-part-value.Post
+quadratic-part-value-unique κ a r₁ r₂ s t p q = p ∙ sym q
 
-pub other-value : Unique other.value.Kinds.ps other.value.Kinds.r other.value.Reads.Post
-other-value κs a r₁ r₂ s₁ s₂ p q = p ∙ sym q
+pub quadratic-part-primitive-unique : OneAnswer quadratic-part-primitive.Post
+quadratic-part-primitive-unique κ a r₁ r₂ s t p q = p ∙ sym q
 
-pub other-primitive : Unique other.primitive.Kinds.ps other.primitive.Kinds.r other.primitive.Reads.Post
-other-primitive κs a r₁ r₂ s₁ s₂ p q = p ∙ sym q
+pub quadratic-part-f-next-unique : OneAnswer quadratic-part-f-next.Post
+quadratic-part-f-next-unique κ a r₁ r₂ s t p q = p ∙ sym q
 
-pub other-f-next : Unique other.f_next.Kinds.ps other.f_next.Kinds.r other.f_next.Reads.Post
-other-f-next κs a r₁ r₂ s₁ s₂ p q = p ∙ sym q
+pub quadratic-part-alone-unique : OneAnswer quadratic-part-alone.Post
+quadratic-part-alone-unique κ a r₁ r₂ s t p q = p ∙ sym q
 
-pub other-alone : Unique other.alone.Kinds.ps other.alone.Kinds.r other.alone.Reads.Post
-other-alone κs a r₁ r₂ s₁ s₂ p q = p ∙ sym q
+pub section-value-unique : OneAnswer section-value.Post
+section-value-unique κ a r₁ r₂ s t p q = p ∙ sym q
 
-pub section-value : Unique section.value.Kinds.ps section.value.Kinds.r section.value.Reads.Post
-section-value κs a r₁ r₂ s₁ s₂ p q = p ∙ sym q
+pub section-primitive-unique : OneAnswer section-primitive.Post
+section-primitive-unique κ a r₁ r₂ s t p q = p ∙ sym q
 
-pub section-primitive : Unique section.primitive.Kinds.ps section.primitive.Kinds.r section.primitive.Reads.Post
-section-primitive κs a r₁ r₂ s₁ s₂ p q = p ∙ sym q
-
-pub section-f-next : Unique section.f_next.Kinds.ps section.f_next.Kinds.r section.f_next.Reads.Post
-section-f-next κs a r₁ r₂ s₁ s₂ p q = p ∙ sym q
+pub section-f-next-unique : OneAnswer section-f-next.Post
+section-f-next-unique κ a r₁ r₂ s t p q = p ∙ sym q

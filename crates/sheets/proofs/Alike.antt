@@ -1,5 +1,6 @@
 -- A sheet with the whole's nodes at its ends and the whole's total before it: its nodes, totals and sections are those of the whole at its places.
-use Prim.Native.Nat.{ℕ, zero, suc, _+_, _-_, _*_, _/_, _%_, _≤_, _<_}
+use Prim.Native.Nat as nat
+use Prim.Native.Nat.{ℕ, suc, _+_, _-_, _*_, _/_, _%_, _≤_, _<_}
 use native.Mathlib.Omega.{arith}
 use native.Mathlib.Nat.{add-zero, add-suc}
 use native.Mathlib.Numerals.{add-one}
@@ -12,7 +13,8 @@ use lib.Dec.{eqb}
 use lib.Ieee.{Float, nan}
 use lib.ListN.{length, getD, take, drop, length-drop}
 use lib.Seq.{getD-take, getD-drop, length-take-le}
-use Rattle.numbers.specs.Words.{nought, _⊕_, _⊖_, _⊗_}
+use Rattle.numbers.specs.Sizes.{slotCount}
+use Rattle.numbers.specs.Words.{zero, _⊕_, _⊖_, _⊗_}
 use Rattle.numbers.proofs.Ways.{lt-or-le}
 use Rattle.section.specs.Section as section
 use Rattle.section.specs.declared.section.Section.{Section}
@@ -86,7 +88,7 @@ module _ (x y : List Float) (method : ConvexMonotone) (n : 3 ≤ length x) (same
       simp (eq-eqb (length (part p x)) 2 q)
       (⊎-elim
       (λ (z : (p .to ≡ length x - 1) × (p .right ≡ end.Free)). absurd (let w = z .0 in omega (arith, w)))
-      (λ (z : (p .to < length x - 1) × (p .right ≡ end.Given (nodeAt x y G (p .to)))). ap (λ (r : End). orGiven r nought) (z .1) ∙ ap (nodeAt x y G) one)
+      (λ (z : (p .to < length x - 1) × (p .right ≡ end.Given (nodeAt x y G (p .to)))). ap (λ (r : End). orGiven r zero) (z .1) ∙ ap (nodeAt x y G) one)
       (fair .right-end)))
       (lt-or-le 1 m)
 
@@ -128,7 +130,7 @@ module _ (x y : List Float) (method : ConvexMonotone) (n : 3 ≤ length x) (same
       (⊎-elim
       (λ (z : (p .from ≡ 0) × (p .left ≡ end.Free)). absurd (let v = z .0 in omega (arith, v, n, e)))
       (λ (z : (0 < p .from) × (p .left ≡ end.Given (nodeAt x y G (p .from)))).
-      ap (λ (l : End). orGiven l nought) (z .1) ∙ ap (nodeAt x y G) (omega (arith, r, e, n)))
+      ap (λ (l : End). orGiven l zero) (z .1) ∙ ap (nodeAt x y G) (omega (arith, r, e, n)))
       (fair .left-end)))
       (lt-or-le 1 m)
 
@@ -156,7 +158,7 @@ module _ (x y : List Float) (method : ConvexMonotone) (n : 3 ≤ length x) (same
       (fair .right-end)
 
   pub nodes-same : (k : ℕ) → k ≤ m → nodeAt (part p x) (part p y) F k ≡ nodeAt x y G (a + k)
-  nodes-same zero h = first-same ∙ ap (nodeAt x y G) (sym (add-zero a))
+  nodes-same nat.zero h = first-same ∙ ap (nodeAt x y G) (sym (add-zero a))
   nodes-same (suc k) h =
       ⊎-elim
       (λ (l : suc k < m).
@@ -173,7 +175,7 @@ module _ (x y : List Float) (method : ConvexMonotone) (n : 3 ≤ length x) (same
 
   pub totals-same : (k : ℕ) → k ≤ m → totalAt (part p x) (part p y) F k ≡ totalAt x y G (a + k)
   unfolding totalAt
-  totals-same zero h = fair .total ∙ ap (totalAt x y G) (sym (add-zero a))
+  totals-same nat.zero h = fair .total ∙ ap (totalAt x y G) (sym (add-zero a))
   totals-same (suc k) h =
       rw (totals-same k (omega arith), y-at (k + 1) (a + k + 1) (omega arith) (omega arith), x-at (k + 1) (a + k + 1) (omega arith) (omega arith), x-at k (a + k) (omega arith) refl, add-suc a k)
 
@@ -196,12 +198,12 @@ module _ (x y : List Float) (method : ConvexMonotone) (n : 3 ≤ length x) (same
   pub tags-same : (k : ℕ) → k < m → tagAt (part p x) (part p y) F k ≡ tagAt x y G (a + k)
   tags-same k h = ap tagOf (sections-same k (a + k) h refl)
 
-  pub slots-same : (k : ℕ) → k < 24 * m → slotAt (part p x) (part p y) F k ≡ slotAt x y G (24 * a + k)
+  pub slots-same : (k : ℕ) → k < slotCount * m → slotAt (part p x) (part p y) F k ≡ slotAt x y G (slotCount * a + k)
   slots-same k h =
-      let d : (24 * a + k) / 24 ≡ a + k / 24 = omega arith in
-      let r : (24 * a + k) % 24 ≡ k % 24 = omega arith in
-      ap (λ (s : Section). getD (slotsOf s) (k % 24) nan) (sections-same (k / 24) ((24 * a + k) / 24) (omega arith) d)
-      ∙ ap (λ (j : ℕ). getD (slotsOf (sectionAt x y G ((24 * a + k) / 24))) j nan) (sym r)
+      let d : (slotCount * a + k) / slotCount ≡ a + k / slotCount = omega arith in
+      let r : (slotCount * a + k) % slotCount ≡ k % slotCount = omega arith in
+      ap (λ (s : Section). getD (slotsOf s) (k % slotCount) nan) (sections-same (k / slotCount) ((slotCount * a + k) / slotCount) (omega arith) d)
+      ∙ ap (λ (j : ℕ). getD (slotsOf (sectionAt x y G ((slotCount * a + k) / slotCount))) j nan) (sym r)
 
   -- the total after the sheet, and, of one that ends the table, the record
   pub total-after : tailOf (part p x) (part p y) F .total ≡ totalAt x y G (p .to)

@@ -10,7 +10,7 @@ use borrow.Author.Tests.{ltb-true}
 use lib.Dec.{ltb}
 use lib.Ieee.{Float}
 use lib.ListN.{length}
-use Rattle.numbers.specs.Words.{nought}
+use Rattle.numbers.specs.Words.{zero}
 use Rattle.numbers.proofs.Every.{and-split}
 use Rattle.numbers.proofs.Ways.{lt-or-le, never}
 use Rattle.table.specs.Table.{nodeAt, totalAt}
@@ -103,4 +103,4 @@ module _ (x y : List Float) (method : ConvexMonotone) where
   pub fair : (ks : List ℕ) → 3 ≤ length x → inner (length x) (handed x y (whole method) ks) ≡ true →
       (p : Piece) → One p (piecesOf (length x) (handed x y (whole method) ks)) → Fair x y method p
   unfolding totalAt
-  fair ks n h = fairs ks 0 end.Free nought (omega arith) (rises-inner (length x) (handed x y (whole method) ks) h) (inl (refl, refl)) refl
+  fair ks n h = fairs ks 0 end.Free zero (omega arith) (rises-inner (length x) (handed x y (whole method) ks) h) (inl (refl, refl)) refl

@@ -3,7 +3,7 @@ use mathlib.Core.Bool.{false}
 use mathlib.Core.List.{List, [], _∷_}
 use mathlib.Core.Path.{_≡_, refl}
 use lib.Ieee.{Float, binary64, ofBits, add, sub, mul, div, neg, le, lt}
-use Rattle.numbers.specs.Words.{nought, one, two, three, abs}
+use Rattle.numbers.specs.Words.{zero, one, two, three, abs}
 use Rattle.record.specs.Tag.{quadraticTag, convexTag, tagOf}
 use Rattle.table.specs.Table.{middleAt, second, secondLast, firstNode, lastNode, nodeAt, totalAt}
 use Rattle.table.specs.declared.method.ConvexMonotone.{ConvexMonotone}
@@ -16,17 +16,17 @@ use Rattle.sheets.specs.Sheet.{sheetFrame}
 use Rattle.sheets.specs.Pieces.{whole}
 
 abbrev method : ConvexMonotone
-method = record { quadraticity = nought; monotonicity = one; «force_positive» = false }
+method = record { quadraticity = zero; monotonicity = one; «force_positive» = false }
 
 abbrev knots : List Float
-knots = nought ∷ one ∷ two ∷ []
+knots = zero ∷ one ∷ two ∷ []
 
 abbrev averages : List Float
-averages = nought ∷ one ∷ three ∷ []
+averages = zero ∷ one ∷ three ∷ []
 
-pub p4 : (sectionAt (nought ∷ one ∷ []) (nought ∷ one ∷ []) (sheetFrame method end.Free (end.Given two) nought) 0 ≡ sectionAt knots averages (whole method) 0)
+pub p4 : (sectionAt (zero ∷ one ∷ []) (zero ∷ one ∷ []) (sheetFrame method end.Free (end.Given two) zero) 0 ≡ sectionAt knots averages (whole method) 0)
     × (sectionAt (one ∷ two ∷ []) (one ∷ three ∷ []) (sheetFrame method (end.Given two) end.Free one) 0 ≡ sectionAt knots averages (whole method) 1)
-    × (tagAt (nought ∷ one ∷ []) (nought ∷ one ∷ []) (sheetFrame method end.Free (end.Given two) nought) 0 ≡ 0x2000)
+    × (tagAt (zero ∷ one ∷ []) (zero ∷ one ∷ []) (sheetFrame method end.Free (end.Given two) zero) 0 ≡ 0x2000)
     × (tagAt (one ∷ two ∷ []) (one ∷ three ∷ []) (sheetFrame method (end.Given two) end.Free one) 0 ≡ 0x2000)
     × (nodeAt knots averages (whole method) 1 ≡ two)
     × (totalAt knots averages (whole method) 1 ≡ one)

@@ -3,7 +3,7 @@ pub mod Strokes
 pub mod Cuts
 pub mod Together
 pub mod SameCurve
-pub mod Drawing
+pub mod InOrder
 pub mod Called
 pub mod Figures
 pub mod Unique

@@ -1,35 +1,40 @@
 -- Steps of `sheet`: the order of its refusals, and a part of a buffer that is written by itself.
 use Prim.Native.Nat.{ℕ, _+_, _-_, _*_, _/_, _≤_, _<_}
 use native.Mathlib.Omega.{arith}
-use mathlib.Core.Bool.{Bool, true, false, cond, _&&_, _||_}
+use native.Mathlib.Nat.{le-refl, add-zero}
+use mathlib.Core.Bool.{Bool, true, false, cond, not, _&&_, _||_}
 use mathlib.Core.List.{List, [], _++_, append-nil}
 use mathlib.Core.Path.{_≡_, refl, sym, ap, _∙_}
+use borrow.Author.Tests.{lt-ltb, le-ltb, eq-eqb, ltb-false, le-leb, leb-true}
 use borrow.Rule.Slice.PartMut.{midOf, postOf, putMid, mid-len, put-same}
-use borrow.Author.Tests.{lt-ltb, le-ltb, ltb-false, le-leb, leb-true}
 use lib.Dec.{ltb, leb}
 use lib.Ieee.{Float}
 use lib.ListN.{length, take, drop, length-drop, take-append-drop}
-use lib.Seq.{take-all, drop-length, take-set-le}
-use native.Mathlib.Nat.{le-refl, le-of-eq, add-zero, le-trans, le-add-right}
+use lib.Seq.{take-all, drop-length}
 use Rattle.numbers.specs.Overlay.{overlay}
+use Rattle.numbers.specs.Sizes.{slotCount}
 use Rattle.numbers.proofs.Overlay.{drop-overlay, take-overlay}
 use Rattle.numbers.proofs.Every.{and-split}
 use Rattle.numbers.proofs.Ways.{never, or-none}
 use Rattle.refusal.specs.Refusal.{first, andThen}
-use Rattle.refusal.specs.declared.Refusal.{Refusal}
 use Rattle.refusal.specs.declared.Refusal.the-variants.{NoGivenNode, TooManyPoints, BufferTooShort}
 use Rattle.refusal.specs.declared.Verdict.{Verdict}
 use Rattle.refusal.specs.declared.Verdict.the-variants as verdict
-use Rattle.refusal.proofs.First.{passed, first-append}
+use Rattle.refusal.proofs.First.{next, both-accept, first-append}
+use Rattle.table.specs.Buffers.{Buffers, Outcome, buffers}
 use Rattle.table.specs.Check.{tableTests, noRoom, roomTests}
+use Rattle.table.specs.Sound.{Sound, Room}
+use Rattle.table.specs.Table.{nodeAt}
 use Rattle.table.specs.declared.method.ConvexMonotone.{ConvexMonotone}
 use Rattle.table.specs.declared.ends.End.{End}
-use Rattle.assembly.specs.Making.{sizeTests, left}
+use Rattle.table.specs.declared.ends.Frame.{Frame}
+use Rattle.table.proofs.Sound.{sound, is-sound, room, has-room}
+use Rattle.assembly.specs.Making.{sizeTests, sizeVerdict, madeFrom}
+use Rattle.assembly.specs.Sections.{tagAt, slotAt}
+use Rattle.assembly.specs.declared.making.Made.{Made}
 use Rattle.assembly.proofs.Sizes.{only-room}
-use Rattle.sheets.specs.Sheet.{noneGiven, numbersTests, sheetTests, answer, reaches, toldSheet}
-use Rattle.sheets.specs.declared.sheet.SheetEnd.{SheetEnd}
-use Rattle.sheets.specs.declared.sheet.Drawn.{Drawn}
-use Rattle.sheets.specs.declared.sheet.Drawn.the-variants as drawn
+use Rattle.sheets.specs.Sheet.{noneGiven, numbersTests, sheetTests}
+use Rattle.sheets.specs.Steps.{reaches, partVerdict}
 
 -- 16 comes first
 module _ (x y : List Float) (method : ConvexMonotone) (l r : End) where
@@ -39,22 +44,31 @@ module _ (x y : List Float) (method : ConvexMonotone) (l r : End) where
   pub has-node : (v : Verdict) → noneGiven l r ≡ false → v ≡ first (tableTests x y method) → v ≡ first (numbersTests x y method l r)
   has-node v h e = rw h e
 
-  pub enough : first (numbersTests x y method l r) ≡ verdict.Accepted → 2 ≤ length x
-  enough h = let t = passed (numbersTests x y method l r) h in ltb-false (length x) 2 (t .1 .1 .1 .1 .0)
+  pub numbers-sound : first (numbersTests x y method l r) ≡ verdict.Accepted → Sound x y method
+  numbers-sound h = let (_, others) = next (noneGiven l r) NoGivenNode (first (tableTests x y method)) h in sound x y method others
 
   -- past 16 and 1 to 7 only sizes are left to ask about
   module _ (place nodes tags slots : ℕ) where
     pub settled : first (numbersTests x y method l r) ≡ verdict.Accepted →
-        first (sheetTests x y method l r place nodes tags slots) ≡ first (roomTests (length x) (nodes - place) (tags - place) (slots - 24 * place))
+        first (sheetTests x y method l r place nodes tags slots) ≡ first (roomTests (length x) (nodes - place) (tags - place) (slots - slotCount * place))
     settled h =
-        first-append (numbersTests x y method l r) (roomTests (length x) (nodes - place) (tags - place) (slots - 24 * place))
-        ∙ ap (λ (v : Verdict). andThen v (first (roomTests (length x) (nodes - place) (tags - place) (slots - 24 * place)))) h
+        first-append (numbersTests x y method l r) (roomTests (length x) (nodes - place) (tags - place) (slots - slotCount * place))
+        ∙ ap (λ (v : Verdict). andThen v (first (roomTests (length x) (nodes - place) (tags - place) (slots - slotCount * place)))) h
 
     pub sized : first (numbersTests x y method l r) ≡ verdict.Accepted →
-        first (sheetTests x y method l r place nodes tags slots) ≡ first (sizeTests (length x) (length y) (nodes - place) (tags - place) (slots - 24 * place))
+        first (sheetTests x y method l r place nodes tags slots) ≡ first (sizeTests (length x) (length y) (nodes - place) (tags - place) (slots - slotCount * place))
     sized h =
-        let t = passed (numbersTests x y method l r) h in
-        settled h ∙ sym (only-room (length x) (length y) (nodes - place) (tags - place) (slots - 24 * place) (t .1 .0) (t .1 .1 .1 .1 .0))
+        let s = numbers-sound h in
+        settled h ∙ sym (only-room (length x) (length y) (nodes - place) (tags - place) (slots - slotCount * place) (ap not (eq-eqb (length x) (length y) (s .same))) (le-ltb (length x) 2 (s .low)))
+
+    -- an accepted sheet is sound; and one that is sound, has a given node and has room is accepted
+    pub sheet-sound : first (sheetTests x y method l r place nodes tags slots) ≡ verdict.Accepted → Sound x y method
+    sheet-sound h =
+        numbers-sound (both-accept _ _ (sym (first-append (numbersTests x y method l r) (roomTests (length x) (nodes - place) (tags - place) (slots - slotCount * place))) ∙ h) .0)
+
+    pub sheet-accepts : noneGiven l r ≡ false → Sound x y method → Room (length x) (nodes - place) (tags - place) (slots - slotCount * place) →
+        first (sheetTests x y method l r place nodes tags slots) ≡ verdict.Accepted
+    sheet-accepts g s room = settled (rw g (is-sound x y method s)) ∙ has-room (length x) (nodes - place) (tags - place) (slots - slotCount * place) room
 
 pub too-many : (n nodes tags slots : ℕ) → 4096 < n → first (roomTests n nodes tags slots) ≡ verdict.Refused TooManyPoints
 too-many n nodes tags slots h = rw (lt-ltb 4096 n h)
@@ -66,40 +80,33 @@ no-room n nodes tags slots h e = rw (le-ltb 4096 n h, e)
 pub record Within (place nodes tags slots : ℕ) : Type 0 where
   pub in-nodes : place ≤ nodes
   pub in-tags : place ≤ tags
-  pub in-slots : 24 * place ≤ slots
+  pub in-slots : slotCount * place ≤ slots
 
 module _ (place nodes tags slots : ℕ) where
   pub within : reaches place nodes tags slots ≡ true → Within place nodes tags slots
   within h =
-      let a = and-split (leb place nodes) (leb place tags && leb place (slots / 24)) h in
-      let b = and-split (leb place tags) (leb place (slots / 24)) (a .1) in
-      let s : place ≤ slots / 24 = leb-true place (slots / 24) (b .1) in
+      let a = and-split (leb place nodes) (leb place tags && leb place (slots / slotCount)) h in
+      let b = and-split (leb place tags) (leb place (slots / slotCount)) (a .1) in
+      let s : place ≤ slots / slotCount = leb-true place (slots / slotCount) (b .1) in
       record { in-nodes = leb-true place nodes (a .0); in-tags = leb-true place tags (b .0); in-slots = omega (arith, s) }
 
   -- a place outside leaves no room for any sheet
   pub outside : (n : ℕ) → 2 ≤ n → n ≤ 4096 → reaches place nodes tags slots ≡ false →
-      first (roomTests n (nodes - place) (tags - place) (slots - 24 * place)) ≡ verdict.Refused BufferTooShort
-  outside n low high h = no-room n (nodes - place) (tags - place) (slots - 24 * place) high (by (noRoom n (nodes - place) (tags - place) (slots - 24 * place)) refl)
+      first (roomTests n (nodes - place) (tags - place) (slots - slotCount * place)) ≡ verdict.Refused BufferTooShort
+  outside n low high h = no-room n (nodes - place) (tags - place) (slots - slotCount * place) high (by (noRoom n (nodes - place) (tags - place) (slots - slotCount * place)) refl)
     where
-      reached : noRoom n (nodes - place) (tags - place) (slots - 24 * place) ≡ false → reaches place nodes tags slots ≡ true
+      reached : noRoom n (nodes - place) (tags - place) (slots - slotCount * place) ≡ false → reaches place nodes tags slots ≡ true
       reached e =
-          let r = or-none (ltb (nodes - place) n) (ltb (tags - place) (n - 1) || ltb (slots - 24 * place) (24 * (n - 1))) e in
-          let q = or-none (ltb (tags - place) (n - 1)) (ltb (slots - 24 * place) (24 * (n - 1))) (r .1) in
+          let r = or-none (ltb (nodes - place) n) (ltb (tags - place) (n - 1) || ltb (slots - slotCount * place) (slotCount * (n - 1))) e in
+          let q = or-none (ltb (tags - place) (n - 1)) (ltb (slots - slotCount * place) (slotCount * (n - 1))) (r .1) in
           let a : n ≤ nodes - place = ltb-false (nodes - place) n (r .0) in
           let b : n - 1 ≤ tags - place = ltb-false (tags - place) (n - 1) (q .0) in
-          let c : 24 * (n - 1) ≤ slots - 24 * place = ltb-false (slots - 24 * place) (24 * (n - 1)) (q .1) in
-          rw (le-leb place nodes (omega arith), le-leb place tags (omega arith), le-leb place (slots / 24) (omega arith))
+          let c : slotCount * (n - 1) ≤ slots - slotCount * place = ltb-false (slots - slotCount * place) (slotCount * (n - 1)) (q .1) in
+          rw (le-leb place nodes (omega arith), le-leb place tags (omega arith), le-leb place (slots / slotCount) (omega arith))
 
-      by : (b : Bool) → noRoom n (nodes - place) (tags - place) (slots - 24 * place) ≡ b → noRoom n (nodes - place) (tags - place) (slots - 24 * place) ≡ true
+      by : (b : Bool) → noRoom n (nodes - place) (tags - place) (slots - slotCount * place) ≡ b → noRoom n (nodes - place) (tags - place) (slots - slotCount * place) ≡ true
       by true e = e
       by false e = never (reached e) h
-
--- an answer by the verdict
-pub refused : (v : Verdict) (r : Refusal) (s : SheetEnd) → v ≡ verdict.Refused r → drawn.Refused r ≡ answer v s
-refused v r s e = rw e
-
-pub drawn-of : (v : Verdict) (s t : SheetEnd) → v ≡ verdict.Accepted → s ≡ t → drawn.Sheet s ≡ answer v t
-drawn-of v s t e f = rw (e, f)
 
 -- the part of a buffer from place a on, by itself and put back
 module _ {A : Type 0} (a : ℕ) (xs : List A) (h : a ≤ length xs) where
@@ -121,16 +128,36 @@ module _ {A : Type 0} (a : ℕ) (xs : List A) (h : a ≤ length xs) where
   pub part-length : length (midOf a (length xs - a) xs) ≡ length xs - a
   part-length = mid-len a (length xs) xs (le-refl (length xs))
 
-  by-verdict : (v : Verdict) (n : ℕ) (f : ℕ → A) →
-      putMid a (length xs - a) xs (left v (overlay 0 n f (midOf a (length xs - a) xs)) (midOf a (length xs - a) xs)) ≡ left v (overlay a n f xs) xs
-  by-verdict verdict.Accepted n f = put-back n f
-  by-verdict (verdict.Refused r) n f = put-same a (length xs - a) xs
+-- what is made in the parts of the buffers from a place on is made in the buffers from that place on
+module _ (place : ℕ) (x y : List Float) (frame : Frame) (b : Buffers) (w : Within place (length (b .nodes)) (length (b .tags)) (length (b .slots))) where
+  abbrev partsOf : Buffers
+  partsOf = buffers (midOf place (length (b .nodes) - place) (b .nodes)) (midOf place (length (b .tags) - place) (b .tags)) (midOf (slotCount * place) (length (b .slots) - slotCount * place) (b .slots))
 
-  -- a part that was left by a verdict, in the whole
-  pub put-left : (v w : Verdict) (n : ℕ) (f : ℕ → A) (part : List A) → v ≡ w → part ≡ left v (overlay 0 n f (midOf a (length xs - a) xs)) (midOf a (length xs - a) xs) →
-      putMid a (length xs - a) xs part ≡ left w (overlay a n f xs) xs
-  put-left v w n f part e k = ap (putMid a (length xs - a) xs) k ∙ by-verdict v n f ∙ ap (λ (u : Verdict). left u (overlay a n f xs) xs) e
+  abbrev backIn : Buffers → Buffers
+  backIn c =
+      buffers (putMid place (length (b .nodes) - place) (b .nodes) (c .nodes)) (putMid place (length (b .tags) - place) (b .tags) (c .tags))
+      (putMid (slotCount * place) (length (b .slots) - slotCount * place) (b .slots) (c .slots))
 
--- the verdict on the parts' sizes
-pub same-sizes : (n m a b c a' b' c' : ℕ) → a ≡ a' → b ≡ b' → c ≡ c' → first (sizeTests n m a b c) ≡ first (sizeTests n m a' b' c')
-same-sizes n m a b c a' b' c' e f g = rw (e, f, g)
+  abbrev back : Outcome Made → Outcome Made
+  back o = record { answer = o .answer; buffers = backIn (o .buffers) }
+
+  by-verdict : (v : Verdict) → back (madeFrom 0 x y frame v partsOf) ≡ madeFrom place x y frame v b
+  by-verdict verdict.Accepted =
+      rw (
+        put-back place (b .nodes) (w .in-nodes) (length x) (nodeAt x y frame),
+        put-back place (b .tags) (w .in-tags) (length x - 1) (tagAt x y frame),
+        put-back (slotCount * place) (b .slots) (w .in-slots) (slotCount * (length x - 1)) (slotAt x y frame),
+      )
+  by-verdict (verdict.Refused r) =
+      rw (
+        put-same place (length (b .nodes) - place) (b .nodes),
+        put-same place (length (b .tags) - place) (b .tags),
+        put-same (slotCount * place) (length (b .slots) - slotCount * place) (b .slots),
+      )
+
+  same-verdict : sizeVerdict x y partsOf ≡ partVerdict place x y b
+  same-verdict =
+      rw (part-length place (b .nodes) (w .in-nodes), part-length place (b .tags) (w .in-tags), part-length (slotCount * place) (b .slots) (w .in-slots))
+
+  pub made-in-part : (o : Outcome Made) → o ≡ madeFrom 0 x y frame (sizeVerdict x y partsOf) partsOf → back o ≡ madeFrom place x y frame (partVerdict place x y b) b
+  made-in-part o e = ap back e ∙ by-verdict (sizeVerdict x y partsOf) ∙ ap (λ (v : Verdict). madeFrom place x y frame v b) same-verdict

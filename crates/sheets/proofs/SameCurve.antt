@@ -1,6 +1,6 @@
 -- Demand 3. A table of 3 to 4,096 points, cut into sheets at any inner knots, each sheet given the whole's nodes at its cuts and the total before it: the sheets
 -- are all accepted exactly when the whole is (`together`), and then in whatever order they are built they leave every buffer as the whole build does
--- (`same-curve`), and each answers the total that the next one starts from, the last one the whole's record (`same-answer`).
+-- (`same-curve`), and each answers the total that the next one starts from, the last one the whole's tail (`same-answer`).
 use Prim.Native.Nat.{ℕ, _+_, _-_, _*_, _/_, _≤_, _<_}
 use native.Mathlib.Omega.{arith}
 use mathlib.Core.Bool.{true, false}
@@ -11,32 +11,32 @@ use borrow.Author.Tests.{ne-eqb}
 use lib.Ieee.{Float, nan}
 use lib.ListN.{length}
 use Rattle.numbers.specs.Overlay.{overlay}
-use Rattle.numbers.specs.Words.{nought}
+use Rattle.numbers.specs.Sizes.{slotCount}
 use Rattle.numbers.proofs.Overlay.{overlay-same}
-use Rattle.refusal.specs.declared.Verdict.{Verdict}
 use Rattle.refusal.specs.declared.Verdict.the-variants as verdict
+use Rattle.table.specs.Buffers.{Buffers, Outcome}
 use Rattle.table.specs.Table.{nodeAt, totalAt}
 use Rattle.table.specs.declared.method.ConvexMonotone.{ConvexMonotone}
 use Rattle.table.specs.declared.ends.End.{End}
 use Rattle.table.specs.declared.ends.End.the-variants as end
 use Rattle.table.specs.declared.ends.Seam.the-variants as seam
 use Rattle.table.specs.declared.ends.Frame.{Frame}
-use Rattle.assembly.specs.Making.{left}
+use Rattle.table.proofs.Outcomes.{left-new}
+use Rattle.assembly.specs.Making.{after}
 use Rattle.assembly.specs.Sections.{tagAt, slotAt, tailOf}
 use Rattle.assembly.specs.declared.sections.Tail.{Tail}
-use Rattle.assembly.proofs.Sizes.{written}
-use Rattle.curve.specs.Build.{wholeFrame, builtOf, curveOf}
+use Rattle.curve.specs.Build.{wholeFrame, curveOf}
+use Rattle.curve.specs.declared.curve.Built.{Built}
 use Rattle.curve.specs.declared.curve.Built.the-variants as built
 use Rattle.sheets.specs.Sheet.{sheetFrame, noTail, endOf}
-use Rattle.sheets.specs.Pieces.{Cut, Piece, whole, Fair, part, piecesOf, inner, handed, Buffers, pieceVerdict, pieceDrawn, afterPiece, afterAll, AllAccepted, wholeVerdict, afterWhole, answerOf}
+use Rattle.sheets.specs.Pieces.{Piece, whole, wholeAt, Fair, part, piecesOf, inner, handed, pieceVerdict, pieceOutcome, afterPiece, afterAll, AllAccepted, wholeVerdict, wholeOutcome, afterWhole, answerOf}
 use Rattle.sheets.specs.declared.sheet.SheetEnd.{SheetEnd}
-use Rattle.sheets.specs.declared.sheet.Drawn.{Drawn}
-use Rattle.sheets.specs.declared.sheet.Drawn.the-variants as drawn
+use Rattle.sheets.specs.declared.sheet.SheetBuilt.{SheetBuilt}
+use Rattle.sheets.specs.declared.sheet.SheetBuilt.the-variants as sheet-built
 use Rattle.sheets.proofs.Alike.{points, nodes-same, tags-same, slots-same, total-after, tail-same}
 use Rattle.sheets.proofs.Cuts.{Stands, given, fair}
-use Rattle.sheets.proofs.Parts.{drawn-of}
-use Rattle.sheets.proofs.Strokes.{Stretch, One, Has, stroke, strokes, strokes-all}
-use Rattle.sheets.proofs.Together.{Table, Room, Sound, whole-sound, piece-accepted, sound-part, standing, period, knot, room-after, all-accepted}
+use Rattle.sheets.proofs.Strokes.{Stretch, One, stroke, strokes, strokes-all}
+use Rattle.sheets.proofs.Together.{Table, RoomIn, whole-sound, piece-accepted, sound-part, standing, period, knot, room-after, all-accepted}
 
 -- where a sheet writes
 abbrev nodeStretch : Piece → Stretch
@@ -46,7 +46,7 @@ abbrev tagStretch : Piece → Stretch
 tagStretch p = record { start = p .from; count = p .to - p .from }
 
 abbrev slotStretch : Piece → Stretch
-slotStretch p = record { start = 24 * p .from; count = 24 * (p .to - p .from) }
+slotStretch p = record { start = slotCount * p .from; count = slotCount * (p .to - p .from) }
 
 one-map : {A B : Type 0} (f : A → B) (l : List A) (a : A) → One a l → One (f a) (map f l)
 one-map f [] a o = absurd o
@@ -79,27 +79,23 @@ module _ (x y : List Float) (method : ConvexMonotone) (table : Table x y) where
     less-one : length (part p x) - 1 ≡ p .to - p .from
     less-one = let e = count in omega (arith, e)
 
-    pub after-one : afterPiece x y method p b ≡ record {
-      nodes = stroke (nodeAt x y G) (nodeStretch p) (b .nodes);
-      tags = stroke (tagAt x y G) (tagStretch p) (b .tags);
-      slots = stroke (slotAt x y G) (slotStretch p) (b .slots);
-    }
+    pub after-one : afterPiece x y method p b ≡ wholeAt x y method p b
     after-one =
-        rw (
-          h,
+        ap (λ (o : Outcome SheetBuilt). o .buffers) (left-new (pieceVerdict x y method p b) sheet-built.Refused b _ (pieceOutcome x y method p b) refl h)
+        ∙ rw (
           less-one,
           count,
           overlay-same (p .from) (p .to - p .from + 1) (nodeAt (part p x) (part p y) F) (λ k. nodeAt x y G (p .from + k)) (b .nodes)
               (λ k l. nodes-same x y method (table .low) (table .same) p f k (omega (arith, l))),
           overlay-same (p .from) (p .to - p .from) (tagAt (part p x) (part p y) F) (λ k. tagAt x y G (p .from + k)) (b .tags)
               (λ k l. tags-same x y method (table .low) (table .same) p f k l),
-          overlay-same (24 * p .from) (24 * (p .to - p .from)) (slotAt (part p x) (part p y) F) (λ k. slotAt x y G (24 * p .from + k)) (b .slots)
+          overlay-same (slotCount * p .from) (slotCount * (p .to - p .from)) (slotAt (part p x) (part p y) F) (λ k. slotAt x y G (slotCount * p .from + k)) (b .slots)
               (λ k l. slots-same x y method (table .low) (table .same) p f k l),
         )
 
     -- 3
-    pub same-answer : pieceDrawn x y method p b ≡ drawn.Sheet (answerOf (p .right) (totalAt x y G (p .to)) (tailOf x y G))
-    same-answer = sym (drawn-of (pieceVerdict x y method p b) _ _ h (sym by-end))
+    pub same-answer : pieceOutcome x y method p b .answer ≡ sheet-built.Sheet (answerOf (p .right) (totalAt x y G (p .to)) (tailOf x y G))
+    same-answer = rw (h, by-end)
       where
         by-end : endOf (p .right) (tailOf (part p x) (part p y) F) ≡ answerOf (p .right) (totalAt x y G (p .to)) (tailOf x y G)
         by-end =
@@ -123,8 +119,8 @@ module _ (x y : List Float) (method : ConvexMonotone) (table : Table x y) where
     slots = strokes (slotAt x y G) (map slotStretch ps) (b .slots);
   }
 
-  painted : (ps : List Piece) (b : Buffers) → Room x b → ((p : Piece) → One p ps → Fair x y method p) →
-      ((p : Piece) → One p ps → (c : Buffers) → Room x c → pieceVerdict x y method p c ≡ verdict.Accepted) → afterAll x y method ps b ≡ paint ps b
+  painted : (ps : List Piece) (b : Buffers) → RoomIn x b → ((p : Piece) → One p ps → Fair x y method p) →
+      ((p : Piece) → One p ps → (c : Buffers) → RoomIn x c → pieceVerdict x y method p c ≡ verdict.Accepted) → afterAll x y method ps b ≡ paint ps b
   unfolding afterAll strokes
   painted [] b r f h = refl
   painted (p ∷ ps) b r f h =
@@ -132,11 +128,11 @@ module _ (x y : List Float) (method : ConvexMonotone) (table : Table x y) where
       ∙ ap (paint ps) (after-one p (f p (inl refl)) b (h p (inl refl) b r))
 
   -- 1 and 2, for the sheets in any order: a list that has every sheet, and nothing else
-  module _ (ks : List ℕ) (i : inner (length x) (handed x y G ks) ≡ true) (b : Buffers) (room : Room x b) (w : wholeVerdict x y method b ≡ verdict.Accepted) where
+  module _ (ks : List ℕ) (i : inner (length x) (handed x y G ks) ≡ true) (b : Buffers) (room : RoomIn x b) (w : wholeVerdict x y method b ≡ verdict.Accepted) where
     abbrev pieces : List Piece
     pieces = piecesOf (length x) (handed x y G ks)
 
-    pub taken : (p : Piece) → One p pieces → (c : Buffers) → Room x c → pieceVerdict x y method p c ≡ verdict.Accepted
+    pub taken : (p : Piece) → One p pieces → (c : Buffers) → RoomIn x c → pieceVerdict x y method p c ≡ verdict.Accepted
     taken p o c r =
         let t = standing x y method table (handed x y G ks) i p o in
         piece-accepted x y method c table r p t (given (length x) (handed x y G ks) i p o) (sound-part x y method table (whole-sound x y method b table room w) p t)
@@ -168,26 +164,24 @@ module _ (x y : List Float) (method : ConvexMonotone) (table : Table x y) where
           let v = q .3 in
           (tagStretch (q .0), one-map tagStretch ps (q .0) (every (q .0) (q .1)), (u, omega (arith, u, v))))
 
-      all-slots : strokes (slotAt x y G) (map slotStretch ps) (b .slots) ≡ overlay 0 (24 * (length x - 1)) (slotAt x y G) (b .slots)
+      all-slots : strokes (slotAt x y G) (map slotStretch ps) (b .slots) ≡ overlay 0 (slotCount * (length x - 1)) (slotAt x y G) (b .slots)
       all-slots =
-          strokes-all (slotAt x y G) nan (map slotStretch ps) (b .slots) (24 * (length x - 1)) (room .in-slots)
-          (stretch-of slotStretch (24 * (length x - 1)) (λ p t. (let u = t .rising in let v = t .inside in omega (arith, u, v))))
+          strokes-all (slotAt x y G) nan (map slotStretch ps) (b .slots) (slotCount * (length x - 1)) (room .in-slots)
+          (stretch-of slotStretch (slotCount * (length x - 1)) (λ p t. (let u = t .rising in let v = t .inside in omega (arith, u, v))))
           (λ j l.
-          let q = period x y method table (handed x y G ks) i (j / 24) (omega (arith, l)) in
+          let q = period x y method table (handed x y G ks) i (j / slotCount) (omega (arith, l)) in
           let u = q .2 in
           let v = q .3 in
           (slotStretch (q .0), one-map slotStretch ps (q .0) (every (q .0) (q .1)), (omega (arith, u), omega (arith, u, v))))
 
       unfoldable filled : Buffers
-      filled = record {
-        nodes = overlay 0 (length x) (nodeAt x y G) (b .nodes);
-        tags = overlay 0 (length x - 1) (tagAt x y G) (b .tags);
-        slots = overlay 0 (24 * (length x - 1)) (slotAt x y G) (b .slots);
-      }
+      filled = after 0 x y G b
 
       by-whole : afterWhole x y method b ≡ filled
       unfolding filled
-      by-whole = rw (w, whole-frame)
+      by-whole =
+          ap (λ (o : Outcome Built). o .buffers) (left-new (wholeVerdict x y method b) built.Refused b _ (wholeOutcome x y method b) refl w)
+          ∙ ap (λ (frame : Frame). after 0 x y frame b) whole-frame
 
       by-sheets : afterAll x y method ps b ≡ filled
       unfolding filled
@@ -200,7 +194,7 @@ module _ (x y : List Float) (method : ConvexMonotone) (table : Table x y) where
     pub in-order : afterAll x y method pieces b ≡ afterWhole x y method b
     in-order = same-curve pieces (λ p o. o) (λ p o. o)
 
-    -- the whole's record is that of `tailOf` above
-    pub whole-record : builtOf x y method false seam.Absent (b .nodes) (b .tags) (b .slots) ≡ built.Curve (record { sections = length x - 1; held = false; extrapolates = false; tail = tailOf x y G })
+    -- the whole's tail is that of `tailOf` above
+    pub whole-tail : wholeOutcome x y method b .answer ≡ built.Curve (record { sections = length x - 1; held = false; extrapolates = false; tail = tailOf x y G })
     unfolding curveOf
-    whole-record = rw (w, whole-frame)
+    whole-tail = rw (w, whole-frame)

@@ -1,163 +1,76 @@
 -- The sheets of a table are accepted together exactly when the whole is: what is asked of a table's numbers is asked at every place, and every place is in a sheet.
 use Prim.Native.Nat.{ℕ, _+_, _-_, _*_, _≤_, _<_}
 use native.Mathlib.Omega.{arith}
-use mathlib.Core.Bool.{Bool, true, false, not, _||_}
+use mathlib.Core.Bool.{true, false}
 use mathlib.Core.List.{List, [], _∷_}
 use mathlib.Core.Logic.{_⊎_, inl, inr}
 use mathlib.Core.Path.{_≡_, refl, sym, ap, _∙_}
-use borrow.Author.Tests.{eq-eqb, le-ltb, not-false}
-use lib.Dec.{eqb, ltb}
 use lib.Ieee.{Float, nan, lt}
 use lib.ListN.{length}
-use Rattle.numbers.specs.Every.{allBelow}
-use Rattle.numbers.specs.Overlay.{overlay}
+use Rattle.numbers.specs.Sizes.{slotCount}
 use Rattle.numbers.specs.Words.{finite}
 use Rattle.numbers.proofs.Every.{all-at, all-every}
 use Rattle.numbers.proofs.Overlay.{length-overlay}
 use Rattle.numbers.proofs.Ways.{lt-or-le}
-use Rattle.refusal.specs.Refusal.{first}
 use Rattle.refusal.specs.declared.Verdict.{Verdict}
 use Rattle.refusal.specs.declared.Verdict.the-variants as verdict
-use Rattle.refusal.proofs.First.{passed, accepted}
-use Rattle.table.specs.Check.{allFinite, rising, inUnit, noRoom, tableTests, roomTests}
-use Rattle.table.specs.Table.{at}
+use Rattle.table.specs.Buffers.{Buffers, judged}
+use Rattle.table.specs.Check.{allFinite, rising}
+use Rattle.table.specs.Sound.{Sound, Room}
+use Rattle.table.specs.Table.{at, nodeAt}
 use Rattle.table.specs.declared.method.ConvexMonotone.{ConvexMonotone}
+use Rattle.table.specs.declared.ends.Frame.{Frame}
 use Rattle.table.specs.declared.ends.Seam.the-variants as seam
-use Rattle.assembly.specs.Making.{left}
-use Rattle.curve.specs.Build.{buildTests}
-use Rattle.sheets.specs.Sheet.{noneGiven, sheetTests}
-use Rattle.sheets.specs.Pieces.{Cut, Piece, part, piecesOf, inner, Buffers, pieceVerdict, afterPiece, AllAccepted, wholeVerdict}
+use Rattle.assembly.specs.Making.{after}
+use Rattle.assembly.specs.Sections.{tagAt, slotAt, tailOf}
+use Rattle.curve.proofs.Accepted.{accepted-sound, accepts}
+use Rattle.sheets.specs.Sheet.{noneGiven, sheetFrame, endOf}
+use Rattle.sheets.specs.Pieces.{Cut, Piece, part, piecesOf, inner, pieceVerdict, afterPiece, AllAccepted, wholeVerdict}
+use Rattle.sheets.specs.declared.sheet.SheetBuilt.the-variants as sheet-built
 use Rattle.sheets.proofs.Alike.{part-length, part-at}
 use Rattle.sheets.proofs.Cuts.{Stands, stands, given, covers, rises-inner}
+use Rattle.sheets.proofs.Parts.{sheet-sound, sheet-accepts}
 use Rattle.sheets.proofs.Strokes.{One}
 
--- what is asked of the numbers
-pub record Sound (x y : List Float) (method : ConvexMonotone) : Type 0 where
-  pub monotonicity : inUnit (method .monotonicity) ≡ true
-  pub quadraticity : inUnit (method .quadraticity) ≡ true
-  pub knots : allFinite x ≡ true
-  pub averages : allFinite y ≡ true
-  pub rise : rising x ≡ true
-
--- a table of 3 to 4,096 points, and buffers with room for all
+-- a table of three points or more, and buffers with room for all of it
 pub record Table (x y : List Float) : Type 0 where
   pub same : length x ≡ length y
   pub low : 3 ≤ length x
-  pub high : length x ≤ 4096
 
-pub record Room (x : List Float) (b : Buffers) : Type 0 where
-  pub in-nodes : length x ≤ length (b .nodes)
-  pub in-tags : length x - 1 ≤ length (b .tags)
-  pub in-slots : 24 * (length x - 1) ≤ length (b .slots)
+abbrev pub RoomIn : List Float → Buffers → Type 0
+RoomIn x b = Room (length x) (length (b .nodes)) (length (b .tags)) (length (b .slots))
 
-roomy : (n nodes tags slots : ℕ) → n ≤ nodes → n - 1 ≤ tags → 24 * (n - 1) ≤ slots → noRoom n nodes tags slots ≡ false
-roomy n nodes tags slots p q r = rw (le-ltb nodes n p, le-ltb tags (n - 1) q, le-ltb slots (24 * (n - 1)) r)
-
--- the whole, and a sheet, are accepted exactly when their numbers are sound
-module _ (x y : List Float) (method : ConvexMonotone) (b : Buffers) (table : Table x y) (room : Room x b) where
+-- the whole, and a sheet, are accepted exactly when they are sound
+module _ (x y : List Float) (method : ConvexMonotone) (b : Buffers) (table : Table x y) (room : RoomIn x b) where
   pub whole-sound : wholeVerdict x y method b ≡ verdict.Accepted → Sound x y method
-  whole-sound h =
-      let t = passed (buildTests x y method seam.Absent (length (b .nodes)) (length (b .tags)) (length (b .slots))) h in
-      record {
-        monotonicity = not-false _ (t .1 .0);
-        quadraticity = not-false _ (t .1 .1 .0);
-        knots = not-false _ (t .1 .1 .1 .1 .0);
-        averages = not-false _ (t .1 .1 .1 .1 .1 .0);
-        rise = not-false _ (t .1 .1 .1 .1 .1 .1 .0);
-      }
+  whole-sound h = accepted-sound x y method seam.Absent (length (b .nodes)) (length (b .tags)) (length (b .slots)) h
 
   pub whole-accepted : Sound x y method → wholeVerdict x y method b ≡ verdict.Accepted
-  whole-accepted s =
-      let n = table .low in
-      accepted (buildTests x y method seam.Absent (length (b .nodes)) (length (b .tags)) (length (b .slots))) (
-        ap not (eq-eqb (length x) (length y) (table .same)),
-        (
-          ap not (s .monotonicity),
-          (
-            ap not (s .quadraticity),
-            (
-              le-ltb (length x) 2 (omega (arith, n)),
-              (
-                ap not (s .knots),
-                (
-                  ap not (s .averages),
-                  (
-                    ap not (s .rise),
-                    (
-                      refl,
-                      (
-                        le-ltb 4096 (length x) (table .high),
-                        (roomy (length x) (length (b .nodes)) (length (b .tags)) (length (b .slots)) (room .in-nodes) (room .in-tags) (room .in-slots), tt),
-                      ),
-                    ),
-                  ),
-                ),
-              ),
-            ),
-          ),
-        ),
-      )
+  whole-accepted s = accepts x y method seam.Absent (length (b .nodes)) (length (b .tags)) (length (b .slots)) s refl room
 
   module _ (p : Piece) (s : Stands 0 (length x - 1) p) (g : noneGiven (p .left) (p .right) ≡ false) where
     within : p .to < length x
     within = let i = s .inside in let n = table .low in omega (arith, i, n)
 
-    within-y : p .to < length y
-    within-y = let i = within in let e = table .same in omega (arith, i, e)
-
     pub piece-sound : pieceVerdict x y method p b ≡ verdict.Accepted → Sound (part p x) (part p y) method
-    piece-sound h =
-        let t = passed (sheetTests (part p x) (part p y) method (p .left) (p .right) (p .from) (length (b .nodes)) (length (b .tags)) (length (b .slots))) h in
-        record {
-          monotonicity = not-false _ (t .1 .1 .0);
-          quadraticity = not-false _ (t .1 .1 .1 .0);
-          knots = not-false _ (t .1 .1 .1 .1 .1 .0);
-          averages = not-false _ (t .1 .1 .1 .1 .1 .1 .0);
-          rise = not-false _ (t .1 .1 .1 .1 .1 .1 .1 .0);
-        }
+    piece-sound h = sheet-sound (part p x) (part p y) method (p .left) (p .right) (p .from) (length (b .nodes)) (length (b .tags)) (length (b .slots)) h
 
     pub piece-accepted : Sound (part p x) (part p y) method → pieceVerdict x y method p b ≡ verdict.Accepted
     piece-accepted q =
         let n = part-length p x within in
-        let m = part-length p y within-y in
         let r = s .rising in
         let i = s .inside in
-        let hi = table .high in
-        let rn = room .in-nodes in
-        let rt = room .in-tags in
-        let rs = room .in-slots in
-        accepted (sheetTests (part p x) (part p y) method (p .left) (p .right) (p .from) (length (b .nodes)) (length (b .tags)) (length (b .slots))) (
-          g,
-          (
-            ap not (eq-eqb (length (part p x)) (length (part p y)) (n ∙ sym m)),
-            (
-              ap not (q .monotonicity),
-              (
-                ap not (q .quadraticity),
-                (
-                  le-ltb (length (part p x)) 2 (omega (arith, n, r)),
-                  (
-                    ap not (q .knots),
-                    (
-                      ap not (q .averages),
-                      (
-                        ap not (q .rise),
-                        (
-                          le-ltb 4096 (length (part p x)) (omega (arith, n, i, hi)),
-                          (
-                            roomy (length (part p x)) (length (b .nodes) - p .from) (length (b .tags) - p .from) (length (b .slots) - 24 * p .from)
-                                (omega (arith, n, r, i, rn)) (omega (arith, n, r, i, rt)) (omega (arith, n, r, i, rs)),
-                            tt,
-                          ),
-                        ),
-                      ),
-                    ),
-                  ),
-                ),
-              ),
-            ),
-          ),
-        )
+        let high = room .high in
+        let in-nodes = room .in-nodes in
+        let in-tags = room .in-tags in
+        let in-slots = room .in-slots in
+        sheet-accepts (part p x) (part p y) method (p .left) (p .right) (p .from) (length (b .nodes)) (length (b .tags)) (length (b .slots)) g q
+        (record {
+          high = omega (arith, n, i, high);
+          in-nodes = omega (arith, n, r, i, in-nodes);
+          in-tags = omega (arith, n, r, i, in-tags);
+          in-slots = omega (arith, n, r, i, in-slots);
+        })
 
 -- finiteness and order, at a sheet's places and at the whole's
 module _ (p : Piece) (xs : List Float) (r : p .from < p .to) (i : p .to < length xs) where
@@ -206,9 +119,13 @@ module _ (x y : List Float) (method : ConvexMonotone) (table : Table x y) where
       let i = q .inside in
       let n = table .low in
       let e = table .same in
+      let m = part-length p x (omega (arith, i, n)) in
+      let k = part-length p y (omega (arith, i, n, e)) in
       record {
+        same = m ∙ sym k;
         monotonicity = s .monotonicity;
         quadraticity = s .quadraticity;
+        low = omega (arith, m, r);
         knots = finite-part p x r (omega (arith, i, n)) (s .knots);
         averages = finite-part p y r (omega (arith, i, n, e)) (s .averages);
         rise = rising-part p x r (omega (arith, i, n)) (s .rise);
@@ -240,8 +157,10 @@ module _ (x y : List Float) (method : ConvexMonotone) (table : Table x y) where
         let n = table .low in
         let f = period 0 (omega (arith, n)) in
         record {
+          same = table .same;
           monotonicity = s (f .0) (f .1) .monotonicity;
           quadraticity = s (f .0) (f .1) .quadraticity;
+          low = omega (arith, n);
           knots = all-every (length x) (λ i. finite (at x i))
               (λ i l. let q = knot i l in let t = standing (q .0) (q .1) in let r = t .inside in finite-at (q .0) x (t .rising) (omega (arith, r, n)) (s (q .0) (q .1) .knots) i (q .2) (q .3));
           averages = all-every (length y) (λ i. finite (at y i))
@@ -255,34 +174,37 @@ module _ (x y : List Float) (method : ConvexMonotone) (table : Table x y) where
               (λ i l. let q = period i l in let t = standing (q .0) (q .1) in let r = t .inside in rising-at (q .0) x (t .rising) (omega (arith, r, n)) (s (q .0) (q .1) .rise) i (q .2) (q .3));
         }
 
--- a verdict leaves a buffer as long as it was
-left-length : {A : Type 0} (v : Verdict) (p n : ℕ) (f : ℕ → A) (old : List A) → length (left v (overlay p n f old) old) ≡ length old
-left-length verdict.Accepted p n f old = length-overlay p n f old
-left-length (verdict.Refused r) p n f old = refl
+-- a sheet leaves each buffer as long as it was
+pub room-after : (x y : List Float) (method : ConvexMonotone) (p : Piece) (b : Buffers) → RoomIn x b → RoomIn x (afterPiece x y method p b)
+room-after x y method p b r = by (pieceVerdict x y method p b)
+  where
+    frame : Frame
+    frame = sheetFrame method (p .left) (p .right) (p .start)
 
-pub room-after : (x y : List Float) (method : ConvexMonotone) (p : Piece) (b : Buffers) → Room x b → Room x (afterPiece x y method p b)
-room-after x y method p b r =
-    let v = pieceVerdict x y method p b in
-    record {
-      in-nodes = rw (left-length v (p .from) (length (part p x)) _ (b .nodes)) (r .in-nodes);
-      in-tags = rw (left-length v (p .from) (length (part p x) - 1) _ (b .tags)) (r .in-tags);
-      in-slots = rw (left-length v (24 * p .from) (24 * (length (part p x) - 1)) _ (b .slots)) (r .in-slots);
-    }
+    by : (v : Verdict) → RoomIn x (judged v sheet-built.Refused b (record { answer = sheet-built.Sheet (endOf (p .right) (tailOf (part p x) (part p y) frame)); buffers = after (p .from) (part p x) (part p y) frame b }) .buffers)
+    by (verdict.Refused q) = r
+    by verdict.Accepted =
+        rw (
+          length-overlay (p .from) (length (part p x)) (nodeAt (part p x) (part p y) frame) (b .nodes),
+          length-overlay (p .from) (length (part p x) - 1) (tagAt (part p x) (part p y) frame) (b .tags),
+          length-overlay (slotCount * p .from) (slotCount * (length (part p x) - 1)) (slotAt (part p x) (part p y) frame) (b .slots),
+        )
+        r
 
 -- one after the other, each on what those before it left
 module _ (x y : List Float) (method : ConvexMonotone) (table : Table x y) where
-  pub all-accepted : (ps : List Piece) (b : Buffers) → Room x b → ((p : Piece) → One p ps → (c : Buffers) → Room x c → pieceVerdict x y method p c ≡ verdict.Accepted) → AllAccepted x y method ps b
+  pub all-accepted : (ps : List Piece) (b : Buffers) → RoomIn x b → ((p : Piece) → One p ps → (c : Buffers) → RoomIn x c → pieceVerdict x y method p c ≡ verdict.Accepted) → AllAccepted x y method ps b
   all-accepted [] b r h = tt
   all-accepted (p ∷ ps) b r h = (h p (inl refl) b r, all-accepted ps (afterPiece x y method p b) (room-after x y method p b r) (λ q o. h q (inr o)))
 
-  each-accepted : (ps : List Piece) (b : Buffers) → Room x b → AllAccepted x y method ps b → (p : Piece) → One p ps →
-      (c : Buffers) × Room x c × (pieceVerdict x y method p c ≡ verdict.Accepted)
+  each-accepted : (ps : List Piece) (b : Buffers) → RoomIn x b → AllAccepted x y method ps b → (p : Piece) → One p ps →
+      (c : Buffers) × RoomIn x c × (pieceVerdict x y method p c ≡ verdict.Accepted)
   each-accepted [] b r h p o = absurd o
   each-accepted (q ∷ ps) b r h p (inl e) = (b, r, ap (λ (s : Piece). pieceVerdict x y method s b) e ∙ h .0)
   each-accepted (q ∷ ps) b r h p (inr o) = each-accepted ps (afterPiece x y method q b) (room-after x y method q b r) (h .1) p o
 
   -- the sheets are all accepted exactly when the whole is, whatever nodes and totals they are given
-  pub together : (cuts : List Cut) → inner (length x) cuts ≡ true → (b : Buffers) → Room x b →
+  pub together : (cuts : List Cut) → inner (length x) cuts ≡ true → (b : Buffers) → RoomIn x b →
       (AllAccepted x y method (piecesOf (length x) cuts) b → wholeVerdict x y method b ≡ verdict.Accepted)
       × (wholeVerdict x y method b ≡ verdict.Accepted → AllAccepted x y method (piecesOf (length x) cuts) b)
   together cuts h b r = (

@@ -1,3 +1,4 @@
 pub mod Pieces
+pub mod Steps
 pub mod InSheets
 pub mod Sheet

@@ -1,5 +1,5 @@
 -- 01, Sheets. A table cut at inner knots: its sheets, what is handed to each, and the buffers after them.
-use Prim.Native.Nat.{ℕ, _+_, _-_, _≤_, _<_}
+use Prim.Native.Nat.{ℕ, _+_, _-_, _*_, _≤_, _<_}
 use mathlib.Core.Bool.{Bool, true, false, _&&_}
 use mathlib.Core.List.{List, [], _∷_}
 use mathlib.Core.Logic.{_⊎_}
@@ -7,22 +7,25 @@ use mathlib.Core.Path.{_≡_}
 use lib.Dec.{ltb}
 use lib.Ieee.{Float}
 use lib.ListN.{length, take, drop}
-use Rattle.numbers.specs.Words.{nought}
+use Rattle.numbers.specs.Overlay.{overlay}
+use Rattle.numbers.specs.Sizes.{slotCount}
+use Rattle.numbers.specs.Words.{zero}
 use Rattle.refusal.specs.declared.Verdict.{Verdict}
 use Rattle.refusal.specs.declared.Verdict.the-variants as verdict
+use Rattle.table.specs.Buffers.{Buffers, Outcome}
 use Rattle.table.specs.Table.{nodeAt, totalAt}
 use Rattle.table.specs.declared.method.ConvexMonotone.{ConvexMonotone}
 use Rattle.table.specs.declared.ends.End.{End}
 use Rattle.table.specs.declared.ends.End.the-variants as end
 use Rattle.table.specs.declared.ends.Seam.the-variants as seam
 use Rattle.table.specs.declared.ends.Frame.{Frame}
-use Rattle.curve.specs.Build as build
-use Rattle.curve.specs.Build.{buildVerdict}
-use Rattle.sheets.specs.declared.sheet.Drawn.{Drawn}
-use Rattle.sheets.specs.Sheet as sheet
-use Rattle.sheets.specs.Sheet.{sheetFrame, noTail, sheetVerdict, drawnOf}
-use Rattle.sheets.specs.declared.sheet.SheetEnd.{SheetEnd}
+use Rattle.assembly.specs.Sections.{tagAt, slotAt}
 use Rattle.assembly.specs.declared.sections.Tail.{Tail}
+use Rattle.curve.specs.Build.{buildVerdict, buildOutcome}
+use Rattle.curve.specs.declared.curve.Built.{Built}
+use Rattle.sheets.specs.Sheet.{sheetFrame, noTail, sheetVerdict, sheetOutcome}
+use Rattle.sheets.specs.declared.sheet.SheetBuilt.{SheetBuilt}
+use Rattle.sheets.specs.declared.sheet.SheetEnd.{SheetEnd}
 
 -- an inner knot, the node given there to both sheets, and the total that the second one starts from
 pub record Cut : Type 0 where
@@ -46,7 +49,7 @@ piecesFrom a l t last (c ∷ cs) =
     ∷ piecesFrom (c .place) (end.Given (c .node)) (c .total) last cs
 
 abbrev pub piecesOf : ℕ → List Cut → List Piece
-piecesOf n cuts = piecesFrom 0 end.Free nought (n - 1) cuts
+piecesOf n cuts = piecesFrom 0 end.Free zero (n - 1) cuts
 
 -- each cut above the one before, and all below the last place
 unfoldable pub rises : ℕ → ℕ → List Cut → Bool
@@ -64,7 +67,7 @@ part p xs = take (p .to + 1 - p .from) (drop (p .from) xs)
 
 -- the whole's frame: both ends free, the total from 0
 abbrev pub whole : ConvexMonotone → Frame
-whole method = sheetFrame method end.Free end.Free nought
+whole method = sheetFrame method end.Free end.Free zero
 
 -- at every cut the whole's own node and total
 unfoldable pub handed : List Float → List Float → Frame → List ℕ → List Cut
@@ -79,30 +82,29 @@ pub record Fair (x y : List Float) (method : ConvexMonotone) (p : Piece) : Type 
   pub right-end : ((p .to ≡ length x - 1) × (p .right ≡ end.Free)) ⊎ ((p .to < length x - 1) × (p .right ≡ end.Given (nodeAt x y (whole method) (p .to))))
   pub total : p .start ≡ totalAt x y (whole method) (p .from)
 
--- what a sheet answers of a whole whose record is t: the total after its last period, and the record if it is the last sheet
+-- what a sheet answers of a whole whose tail is t: the total after its last period, and the tail if it is the last sheet
 abbrev pub answerOf : End → Float → Tail → SheetEnd
 answerOf end.Free total t = record { total = total; tail = t }
 answerOf (end.Given g) total t = record { total = total; tail = noTail }
 
-pub record Buffers : Type 0 where
-  pub nodes : List Float
-  pub tags : List ℕ
-  pub slots : List Float
-
--- what `sheet` decides of a sheet, answers, and leaves
 module _ (x y : List Float) (method : ConvexMonotone) where
-  abbrev pub pieceVerdict : Piece → Buffers → Verdict
-  pieceVerdict p b = sheetVerdict (part p x) (part p y) method (p .left) (p .right) (p .from) (b .nodes) (b .tags) (b .slots)
+  -- the buffers with the whole's nodes and records at a sheet's places
+  abbrev pub wholeAt : Piece → Buffers → Buffers
+  wholeAt p b = record {
+    nodes = overlay (p .from) (p .to - p .from + 1) (λ k. nodeAt x y (whole method) (p .from + k)) (b .nodes);
+    tags = overlay (p .from) (p .to - p .from) (λ k. tagAt x y (whole method) (p .from + k)) (b .tags);
+    slots = overlay (slotCount * p .from) (slotCount * (p .to - p .from)) (λ k. slotAt x y (whole method) (slotCount * p .from + k)) (b .slots);
+  }
 
-  abbrev pub pieceDrawn : Piece → Buffers → Drawn
-  pieceDrawn p b = drawnOf (part p x) (part p y) method (p .left) (p .right) (p .start) (p .from) (b .nodes) (b .tags) (b .slots)
+  -- what `sheet` decides of a sheet, and what it answers and leaves
+  abbrev pub pieceVerdict : Piece → Buffers → Verdict
+  pieceVerdict p b = sheetVerdict (part p x) (part p y) method (p .left) (p .right) (p .from) b
+
+  abbrev pub pieceOutcome : Piece → Buffers → Outcome SheetBuilt
+  pieceOutcome p b = sheetOutcome (part p x) (part p y) method (p .left) (p .right) (p .start) (p .from) b
 
   abbrev pub afterPiece : Piece → Buffers → Buffers
-  afterPiece p b = record {
-    nodes = sheet.nodesLeft (part p x) (part p y) method (p .left) (p .right) (p .start) (p .from) (b .nodes) (b .tags) (b .slots);
-    tags = sheet.tagsLeft (part p x) (part p y) method (p .left) (p .right) (p .start) (p .from) (b .nodes) (b .tags) (b .slots);
-    slots = sheet.slotsLeft (part p x) (part p y) method (p .left) (p .right) (p .start) (p .from) (b .nodes) (b .tags) (b .slots);
-  }
+  afterPiece p b = pieceOutcome p b .buffers
 
   -- one after the other
   unfoldable pub afterAll : List Piece → Buffers → Buffers
@@ -114,13 +116,12 @@ module _ (x y : List Float) (method : ConvexMonotone) where
   AllAccepted [] b = Unit {0}
   AllAccepted (p ∷ ps) b = (pieceVerdict p b ≡ verdict.Accepted) × AllAccepted ps (afterPiece p b)
 
-  -- what the whole build decides and leaves, with no seam and no held last period
+  -- what the whole build decides, and what it answers and leaves, with no seam and no held last period
   abbrev pub wholeVerdict : Buffers → Verdict
-  wholeVerdict b = buildVerdict x y method seam.Absent (b .nodes) (b .tags) (b .slots)
+  wholeVerdict b = buildVerdict x y method seam.Absent b
+
+  abbrev pub wholeOutcome : Buffers → Outcome Built
+  wholeOutcome b = buildOutcome x y method false seam.Absent b
 
   abbrev pub afterWhole : Buffers → Buffers
-  afterWhole b = record {
-    nodes = build.nodesLeft x y method false seam.Absent (b .nodes) (b .tags) (b .slots);
-    tags = build.tagsLeft x y method false seam.Absent (b .nodes) (b .tags) (b .slots);
-    slots = build.slotsLeft x y method false seam.Absent (b .nodes) (b .tags) (b .slots);
-  }
+  afterWhole b = wholeOutcome b .buffers

@@ -1,5 +1,5 @@
 // A whole table, built sheet by sheet.
-use crate::sheet::Drawn;
+use crate::sheet::SheetBuilt;
 use crate::sheet::SheetEnd;
 use crate::sheet::no_tail;
 use crate::sheet::sheet;
@@ -16,16 +16,16 @@ use table::ends::Seam;
 use table::method::ConvexMonotone;
 ghost use mathlib.Core.Path.{_≡_};
 ghost use mathlib.Core.Bool.{true, false};
-ghost use Prim.Native.Nat.{ℕ, _+_, _-_, _*_, _≤_, _<_};
-ghost use lib.ListN.{length, getD};
-ghost use lib.Ieee.{nan};
-ghost use Rattle.numbers.specs.Overlay.{overlay};
-ghost use Rattle.table.specs.Table.{nodeAt, totalAt};
-ghost use Rattle.assembly.specs.Sections.{tagAt, slotAt, tailOf};
+ghost use Prim.Native.Nat.{_+_, _-_, _≤_, _<_};
+ghost use lib.ListN.{length};
+ghost use Rattle.table.specs.Buffers.{buffers, outcome};
+ghost use Rattle.table.specs.Table.{nodeAt};
+ghost use Rattle.assembly.specs.Making.{after};
+ghost use Rattle.assembly.specs.Sections.{tailOf};
 ghost use Rattle.sheets.specs.Sheet.{noneGiven};
-ghost use Rattle.sheets.specs.Pieces.{whole, Fair, answerOf};
-ghost use Rattle.sheets.specs.InSheets.{cutsFit, leftEnd, Ready, inSheets, inSheetsLeft};
-ghost use Rattle.curve.specs.Build.{builtOf, nodesLeft, tagsLeft, slotsLeft};
+ghost use Rattle.sheets.specs.Pieces.{whole, Fair};
+ghost use Rattle.sheets.specs.InSheets.{cutsFit, inSheetsOutcome};
+ghost use Rattle.sheets.specs.Steps.{leftEnd, Ready, pieceOfWhole};
 
 fn less_one(n: usize) -> usize
     ensures { λ r. ⌜ r ≡ n - 1 ⌝ }
@@ -75,7 +75,7 @@ fn left_end(nodes: &[f64], from: usize) -> End
 }
 
 // One sheet of a table that is accepted as a whole: it can't be refused.
-fn draw(
+fn build_sheet(
     xs: &[f64],
     ys: &[f64],
     method: ConvexMonotone,
@@ -88,13 +88,10 @@ fn draw(
     tags: &mut [u16],
     slots: &mut [f64],
 ) -> SheetEnd
-    requires { ⌜ Ready (now xs) (now ys) method (length (now nodes)) (length (now tags)) (length (now slots)) ⌝ }
+    requires { ⌜ Ready (now xs) (now ys) method (buffers (now nodes) (now tags) (now slots)) ⌝ }
     requires { ⌜ Fair (now xs) (now ys) method (record { from = from; to = to; left = left; right = right; start = start }) ⌝ }
     requires { ⌜ noneGiven left right ≡ false ⌝ }
-    ensures answer { λ r. ⌜ r ≡ answerOf right (totalAt (now (xs .entry)) (now (ys .entry)) (whole method) to) (tailOf (now (xs .entry)) (now (ys .entry)) (whole method)) ⌝ }
-    ensures nodes { λ _. ⌜ now (nodes .exit) ≡ overlay from (to - from + 1) (λ k. nodeAt (now (xs .entry)) (now (ys .entry)) (whole method) (from + k)) (now (nodes .entry)) ⌝ }
-    ensures tags { λ _. ⌜ now (tags .exit) ≡ overlay from (to - from) (λ k. tagAt (now (xs .entry)) (now (ys .entry)) (whole method) (from + k)) (now (tags .entry)) ⌝ }
-    ensures slots { λ _. ⌜ now (slots .exit) ≡ overlay (24 * from) (24 * (to - from)) (λ k. slotAt (now (xs .entry)) (now (ys .entry)) (whole method) (24 * from + k)) (now (slots .entry)) ⌝ }
+    ensures { λ r. ⌜ outcome r (now (nodes .exit)) (now (tags .exit)) (now (slots .exit)) ≡ pieceOfWhole (now (xs .entry)) (now (ys .entry)) method (record { from = from; to = to; left = left; right = right; start = start }) (buffers (now (nodes .entry)) (now (tags .entry)) (now (slots .entry))) ⌝ }
 {
     let past = to + 1;
     match sheet(
@@ -109,16 +106,16 @@ fn draw(
         tags,
         slots,
     ) {
-        Drawn::Sheet(answer) => answer,
-        Drawn::Refused(_) => SheetEnd {
+        SheetBuilt::Sheet(answer) => answer,
+        SheetBuilt::Refused(_) => SheetEnd {
             total: 0.0,
             tail: no_tail(),
         },
     }
 }
 
-// All sheets of an accepted table, one after the other; answers the record beyond the last knot.
-fn draw_all(
+// All sheets of an accepted table, one after the other; answers the tail.
+fn build_sheets(
     xs: &[f64],
     ys: &[f64],
     method: ConvexMonotone,
@@ -127,12 +124,9 @@ fn draw_all(
     tags: &mut [u16],
     slots: &mut [f64],
 ) -> Tail
-    requires { ⌜ Ready (now xs) (now ys) method (length (now nodes)) (length (now tags)) (length (now slots)) ⌝ }
+    requires { ⌜ Ready (now xs) (now ys) method (buffers (now nodes) (now tags) (now slots)) ⌝ }
     requires { ⌜ (0 < length (now cuts)) × (cutsFit (now cuts) (length (now xs)) ≡ true) ⌝ }
-    ensures tail { λ r. ⌜ r ≡ tailOf (now (xs .entry)) (now (ys .entry)) (whole method) ⌝ }
-    ensures nodes { λ _. ⌜ now (nodes .exit) ≡ overlay 0 (length (now (xs .entry))) (nodeAt (now (xs .entry)) (now (ys .entry)) (whole method)) (now (nodes .entry)) ⌝ }
-    ensures tags { λ _. ⌜ now (tags .exit) ≡ overlay 0 (length (now (xs .entry)) - 1) (tagAt (now (xs .entry)) (now (ys .entry)) (whole method)) (now (tags .entry)) ⌝ }
-    ensures slots { λ _. ⌜ now (slots .exit) ≡ overlay 0 (24 * (length (now (xs .entry)) - 1)) (slotAt (now (xs .entry)) (now (ys .entry)) (whole method)) (now (slots .entry)) ⌝ }
+    ensures { λ r. ⌜ outcome r (now (nodes .exit)) (now (tags .exit)) (now (slots .exit)) ≡ record { answer = tailOf (now (xs .entry)) (now (ys .entry)) (whole method); buffers = after 0 (now (xs .entry)) (now (ys .entry)) (whole method) (buffers (now (nodes .entry)) (now (tags .entry)) (now (slots .entry))) } ⌝ }
 {
     let mut from = 0;
     let mut total = 0.0;
@@ -140,7 +134,7 @@ fn draw_all(
         let to = cuts[j];
         let left = left_end(nodes, from);
         let right = End::Given(cut_node(xs, ys, method, to));
-        let answer = draw(
+        let answer = build_sheet(
             xs,
             ys,
             method,
@@ -158,7 +152,7 @@ fn draw_all(
     }
     let left = left_end(nodes, from);
     let last = xs.len() - 1;
-    let answer = draw(
+    let answer = build_sheet(
         xs,
         ys,
         method,
@@ -185,10 +179,7 @@ pub fn build_in_sheets(
     tags: &mut [u16],
     slots: &mut [f64],
 ) -> Built
-    ensures built { λ r. ⌜ r ≡ inSheets (now (cuts .entry)) (length (now (xs .entry))) (builtOf (now (xs .entry)) (now (ys .entry)) method false Seam.Absent (now (nodes .entry)) (now (tags .entry)) (now (slots .entry))) ⌝ }
-    ensures nodes { λ _. ⌜ now (nodes .exit) ≡ inSheetsLeft (now (cuts .entry)) (length (now (xs .entry))) (nodesLeft (now (xs .entry)) (now (ys .entry)) method false Seam.Absent (now (nodes .entry)) (now (tags .entry)) (now (slots .entry))) (now (nodes .entry)) ⌝ }
-    ensures tags { λ _. ⌜ now (tags .exit) ≡ inSheetsLeft (now (cuts .entry)) (length (now (xs .entry))) (tagsLeft (now (xs .entry)) (now (ys .entry)) method false Seam.Absent (now (nodes .entry)) (now (tags .entry)) (now (slots .entry))) (now (tags .entry)) ⌝ }
-    ensures slots { λ _. ⌜ now (slots .exit) ≡ inSheetsLeft (now (cuts .entry)) (length (now (xs .entry))) (slotsLeft (now (xs .entry)) (now (ys .entry)) method false Seam.Absent (now (nodes .entry)) (now (tags .entry)) (now (slots .entry))) (now (slots .entry)) ⌝ }
+    ensures { λ r. ⌜ outcome r (now (nodes .exit)) (now (tags .exit)) (now (slots .exit)) ≡ inSheetsOutcome (now (xs .entry)) (now (ys .entry)) method (now (cuts .entry)) (buffers (now (nodes .entry)) (now (tags .entry)) (now (slots .entry))) ⌝ }
 {
     if !cuts_fit(cuts, xs.len()) {
         return Built::Refused(Refusal::CutsNotInner);
@@ -207,7 +198,7 @@ pub fn build_in_sheets(
     ) {
         Verdict::Refused(refusal) => Built::Refused(refusal),
         Verdict::Accepted => {
-            let tail = draw_all(xs, ys, method, cuts, nodes, tags, slots);
+            let tail = build_sheets(xs, ys, method, cuts, nodes, tags, slots);
             Built::Curve(Curve {
                 sections: xs.len() - 1,
                 held: false,

@@ -14,19 +14,21 @@ use table::method::ConvexMonotone;
 ghost use mathlib.Core.Path.{_≡_};
 ghost use Prim.Native.Nat.{_-_, _*_, _≤_};
 ghost use lib.ListN.{length};
+ghost use Rattle.numbers.specs.Sizes.{slotCount};
 ghost use Rattle.refusal.specs.Refusal.{first};
-ghost use Rattle.assembly.specs.Making.{sizeTests, madeOf, left, nodesAfter, tagsAfter, slotsAfter};
-ghost use Rattle.assembly.specs.Sections.{tailOf};
-ghost use Rattle.sheets.specs.Sheet.{noneGiven, numbersTests, sheetTests, reaches, sheetFrame, noTail, endOf, partVerdict, drawnOf, nodesLeft, tagsLeft, slotsLeft, toldSheet};
+ghost use Rattle.table.specs.Buffers.{buffers, outcome};
+ghost use Rattle.assembly.specs.Making.{madeFrom};
+ghost use Rattle.sheets.specs.Sheet.{noneGiven, numbersTests, sheetTests, noTail, endOf, sheetOutcome, toldSheet};
+ghost use Rattle.sheets.specs.Steps.{reaches, partVerdict};
 
-// The total after a sheet's last section, and the record beyond its last knot: three +0.0 where another sheet goes on from there.
+// The total after a sheet's last section, and the tail: three +0.0 where another sheet goes on from there.
 pub struct SheetEnd {
     pub total: f64,
     pub tail: Tail,
 }
 
 // What a sheet answers.
-pub enum Drawn {
+pub enum SheetBuilt {
     Sheet(SheetEnd),
     Refused(Refusal),
 }
@@ -48,12 +50,12 @@ pub(crate) fn no_tail() -> Tail
     }
 }
 
-impl Drawn {
+impl SheetBuilt {
     pub fn told(self) -> ToldSheet
         ensures { λ r. ⌜ r ≡ toldSheet self ⌝ }
     {
         match self {
-            Drawn::Sheet(end) => {
+            SheetBuilt::Sheet(end) => {
                 let tail = end.tail;
                 ToldSheet {
                     refusal: 0,
@@ -61,7 +63,7 @@ impl Drawn {
                     tail,
                 }
             }
-            Drawn::Refused(refusal) => {
+            SheetBuilt::Refused(refusal) => {
                 let tail = no_tail();
                 ToldSheet {
                     refusal: refusal.number(),
@@ -107,7 +109,7 @@ fn entries_from(entries: usize, place: usize) -> usize
 
 // The slots that are left from a place on, told without a product that could wrap.
 fn slots_from(slots: usize, place: usize) -> usize
-    ensures { λ r. ⌜ r ≡ slots - 24 * place ⌝ }
+    ensures { λ r. ⌜ r ≡ slots - slotCount * place ⌝ }
 {
     if slots / SLOTS < place {
         return 0;
@@ -164,11 +166,8 @@ fn make_from(
     tags: &mut [u16],
     slots: &mut [f64],
 ) -> Made
-    requires { ⌜ (place ≤ length (now nodes)) × (place ≤ length (now tags)) × (24 * place ≤ length (now slots)) ⌝ }
-    ensures made { λ r. ⌜ r ≡ madeOf (partVerdict place (now (xs .entry)) (now (ys .entry)) (now (nodes .entry)) (now (tags .entry)) (now (slots .entry))) (tailOf (now (xs .entry)) (now (ys .entry)) frame) ⌝ }
-    ensures nodes { λ _. ⌜ now (nodes .exit) ≡ left (partVerdict place (now (xs .entry)) (now (ys .entry)) (now (nodes .entry)) (now (tags .entry)) (now (slots .entry))) (nodesAfter place (now (xs .entry)) (now (ys .entry)) frame (now (nodes .entry))) (now (nodes .entry)) ⌝ }
-    ensures tags { λ _. ⌜ now (tags .exit) ≡ left (partVerdict place (now (xs .entry)) (now (ys .entry)) (now (nodes .entry)) (now (tags .entry)) (now (slots .entry))) (tagsAfter place (now (xs .entry)) (now (ys .entry)) frame (now (tags .entry))) (now (tags .entry)) ⌝ }
-    ensures slots { λ _. ⌜ now (slots .exit) ≡ left (partVerdict place (now (xs .entry)) (now (ys .entry)) (now (nodes .entry)) (now (tags .entry)) (now (slots .entry))) (slotsAfter place (now (xs .entry)) (now (ys .entry)) frame (now (slots .entry))) (now (slots .entry)) ⌝ }
+    requires { ⌜ (place ≤ length (now nodes)) × (place ≤ length (now tags)) × (slotCount * place ≤ length (now slots)) ⌝ }
+    ensures { λ r. ⌜ outcome r (now (nodes .exit)) (now (tags .exit)) (now (slots .exit)) ≡ madeFrom place (now (xs .entry)) (now (ys .entry)) frame (partVerdict place (now (xs .entry)) (now (ys .entry)) (buffers (now (nodes .entry)) (now (tags .entry)) (now (slots .entry)))) (buffers (now (nodes .entry)) (now (tags .entry)) (now (slots .entry))) ⌝ }
 {
     let from = SLOTS * place;
     make(
@@ -209,20 +208,17 @@ pub fn sheet(
     nodes: &mut [f64],
     tags: &mut [u16],
     slots: &mut [f64],
-) -> Drawn
-    ensures drawn { λ r. ⌜ r ≡ drawnOf (now (xs .entry)) (now (ys .entry)) method left right start place (now (nodes .entry)) (now (tags .entry)) (now (slots .entry)) ⌝ }
-    ensures nodes { λ _. ⌜ now (nodes .exit) ≡ nodesLeft (now (xs .entry)) (now (ys .entry)) method left right start place (now (nodes .entry)) (now (tags .entry)) (now (slots .entry)) ⌝ }
-    ensures tags { λ _. ⌜ now (tags .exit) ≡ tagsLeft (now (xs .entry)) (now (ys .entry)) method left right start place (now (nodes .entry)) (now (tags .entry)) (now (slots .entry)) ⌝ }
-    ensures slots { λ _. ⌜ now (slots .exit) ≡ slotsLeft (now (xs .entry)) (now (ys .entry)) method left right start place (now (nodes .entry)) (now (tags .entry)) (now (slots .entry)) ⌝ }
+) -> SheetBuilt
+    ensures { λ r. ⌜ outcome r (now (nodes .exit)) (now (tags .exit)) (now (slots .exit)) ≡ sheetOutcome (now (xs .entry)) (now (ys .entry)) method left right start place (buffers (now (nodes .entry)) (now (tags .entry)) (now (slots .entry))) ⌝ }
 {
     match numbers_verdict(xs, ys, method, left, right) {
-        Verdict::Refused(refusal) => Drawn::Refused(refusal),
+        Verdict::Refused(refusal) => SheetBuilt::Refused(refusal),
         Verdict::Accepted => {
             if 4096 < xs.len() {
-                return Drawn::Refused(Refusal::TooManyPoints);
+                return SheetBuilt::Refused(Refusal::TooManyPoints);
             }
             if !reaches(place, nodes.len(), tags.len(), slots.len()) {
-                return Drawn::Refused(Refusal::BufferTooShort);
+                return SheetBuilt::Refused(Refusal::BufferTooShort);
             }
             let frame = Frame {
                 method,
@@ -233,8 +229,8 @@ pub fn sheet(
                 start,
             };
             match make_from(place, xs, ys, frame, nodes, tags, slots) {
-                Made::Refused(refusal) => Drawn::Refused(refusal),
-                Made::Tail(tail) => Drawn::Sheet(end_of(right, tail)),
+                Made::Refused(refusal) => SheetBuilt::Refused(refusal),
+                Made::Tail(tail) => SheetBuilt::Sheet(end_of(right, tail)),
             }
         }
     }

@@ -6,7 +6,7 @@ use lib.Dec.{eqb, ltb, leb}
 use lib.Ieee.{Float, lt, le}
 use lib.ListN.{length}
 use Rattle.numbers.specs.Every.{allBelow}
-use Rattle.numbers.specs.Words.{nought, one, finite}
+use Rattle.numbers.specs.Words.{zero, one, finite}
 use Rattle.refusal.specs.Refusal.{Test, _⇒_}
 use Rattle.numbers.specs.Sizes.{slotCount}
 use Rattle.refusal.specs.declared.Refusal.the-variants.{LengthsDiffer, MonotonicityOutside, QuadraticityOutside, TooFewPoints, KnotNotFinite, AverageNotFinite, KnotsNotRising, SeamTooLong, TooManyPoints, BufferTooShort}
@@ -34,7 +34,7 @@ endsFinite xs = cond (eqb (length xs) 0) true (finite (at xs 0) && finite (at xs
 
 -- in [0, 1]; a NaN is not, and -0.0 is
 abbrev pub inUnit : Float → Bool
-inUnit x = le nought x && le x one
+inUnit x = le zero x && le x one
 
 abbrev pub seamTooLong : Seam → ℕ → Bool
 seamTooLong seam.Absent n = false

@@ -1,3 +1,5 @@
 pub mod Method
 pub mod Table
 pub mod Check
+pub mod Sound
+pub mod Buffers

@@ -1,11 +1,12 @@
 -- 01, Node values; Sheets. The numbers that stand at each knot, by place.
-use Prim.Native.Nat.{ℕ, zero, suc, _+_, _-_}
+use Prim.Native.Nat as nat
+use Prim.Native.Nat.{ℕ, suc, _+_, _-_}
 use mathlib.Core.Bool.{Bool, cond, _&&_}
 use mathlib.Core.List.{List}
 use lib.Dec.{eqb}
 use lib.Ieee.{Float, nan, lt}
 use lib.ListN.{length, getD}
-use Rattle.numbers.specs.Words.{_⊕_, _⊖_, _⊗_, _⊘_, nought, half, threeHalves}
+use Rattle.numbers.specs.Words.{_⊕_, _⊖_, _⊗_, _⊘_, zero, half, threeHalves}
 use Rattle.table.specs.declared.method.ConvexMonotone.{ConvexMonotone}
 use Rattle.table.specs.declared.ends.Frame.{Frame}
 use Rattle.table.specs.declared.ends.End.{End}
@@ -27,7 +28,7 @@ seamed (seam.At count g) i f = cond (eqb i count) g f
 
 -- an end node from the average y beside it and the next node f, and not below zero if that is asked
 abbrev pub outer : Bool → Float → Float → Float
-outer positive y f = let g = threeHalves ⊗ y ⊖ half ⊗ f in cond (positive && lt g nought) nought g
+outer positive y f = let g = threeHalves ⊗ y ⊖ half ⊗ f in cond (positive && lt g zero) zero g
 
 -- a given node stands in for the end's own
 abbrev pub orGiven : End → Float → Float
@@ -45,11 +46,11 @@ module _ (x y : List Float) (frame : Frame) where
   -- the neighbours of the end nodes: where there are two points they are each other's, as far as they are given
   unfoldable pub second : Float
   unfolding middleAt
-  second = cond (eqb points 2) (orGiven (frame .right) nought) (middleAt 1)
+  second = cond (eqb points 2) (orGiven (frame .right) zero) (middleAt 1)
 
   unfoldable pub secondLast : Float
   unfolding middleAt
-  secondLast = cond (eqb points 2) (orGiven (frame .left) nought) (middleAt (points - 2))
+  secondLast = cond (eqb points 2) (orGiven (frame .left) zero) (middleAt (points - 2))
 
   unfoldable pub firstNode : Float
   unfolding second
@@ -65,5 +66,5 @@ module _ (x y : List Float) (frame : Frame) where
 
   -- the total of the first i periods
   unfoldable pub totalAt : ℕ → Float
-  totalAt zero = frame .start
+  totalAt nat.zero = frame .start
   totalAt (suc i) = totalAt i ⊕ at y (i + 1) ⊗ (at x (i + 1) ⊖ at x i)

@@ -2,7 +2,7 @@
 use mathlib.Core.Bool.{Bool, true, false, cond}
 use mathlib.Core.Path.{_≡_, refl, ap, _∙_}
 use lib.Ieee.{Float, lt}
-use Rattle.numbers.specs.Words.{nought}
+use Rattle.numbers.specs.Words.{zero}
 use borrow.Author.Needs.{needs}
 use Rattle.section.specs.declared.section.Section.{Section}
 use Rattle.section.specs.QuadraticPart as quadratic
@@ -21,7 +21,7 @@ either-made period false m n = refl
 first-made : (method : ConvexMonotone) (period : Period) (P N : Float) (k : Bool) (s : Section) → k ≡ firstKind method P N → s ≡ quadratic.alone (made period k) →
     s ≡ quadratic.alone (firstRegion method period P N)
 unfolding firstKind firstRegion
-first-made method period P N k s e f = f ∙ ap (λ (j : Bool). quadratic.alone (made period j)) e ∙ ap quadratic.alone (either-made period (lt nought (method .quadraticity)) (minKind method P N) (method .«force_positive»))
+first-made method period P N k s e f = f ∙ ap (λ (j : Bool). quadratic.alone (made period j)) e ∙ ap quadratic.alone (either-made period (lt zero (method .quadraticity)) (minKind method P N) (method .«force_positive»))
 
 returns : tie.Need-returns
 unfolding shaped

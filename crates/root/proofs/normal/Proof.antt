@@ -1,4 +1,4 @@
--- `root::normal` meets its contract: what is settled is the nearest whole number to the root of the number brought to size, and the exponent's half is the root's.
+-- `root::normal` meets its contract: what is settled is the nearest whole number to the root of the normalised number, and the exponent's half is the root's.
 use Prim.Native.Nat.{ℕ, _+_, _-_, _*_, _/_, _%_, _^_, _<_, _≤_}
 use native.Mathlib.Omega.{arith}
 use native.Mathlib.Nat.{lt-of-lt-of-le, mul-lt-mul-of-pos-right, mul-le-mul-left}
@@ -34,17 +34,17 @@ parted : (m p r : ℕ) → r < 2 ^ 52 → m ≡ p * 2 ^ 52 + r → (m % 2 ^ 52 �
 parted m p r h e = (omega arith, omega arith)
 
 -- what the code hands on is q, or twice q
-handed : (c : tie.After-brought) → c .brought .result ≡ q-of (c .before .before .before) * (k-of (c .before .before .before) % 2 + 1)
+handed : (c : tie.After-normalise) → c .normalise .result ≡ q-of (c .before .before .before) * (k-of (c .before .before .before) % 2 + 1)
 handed c =
     let b = c .before .before .before .args .bits in
     let t = parted _ ((b - 2 ^ 52) / 2 ^ 52 % 2) ((b - 2 ^ 52) % 2 ^ 52) (omega arith) (low-here b (omega arith)) in
-    c .brought .ensures ∙ ap (λ (x : ℕ). (x + 2 ^ 52) * ((b + 1021 * 2 ^ 52) % 2 ^ 53 / 2 ^ 52 + 1)) (t .0) ∙ ap (λ (x : ℕ). ((b - 2 ^ 52) % 2 ^ 52 + 2 ^ 52) * (x + 1)) (t .1)
+    c .normalise .ensures ∙ ap (λ (x : ℕ). (x + 2 ^ 52) * ((b + 1021 * 2 ^ 52) % 2 ^ 53 / 2 ^ 52 + 1)) (t .0) ∙ ap (λ (x : ℕ). ((b - 2 ^ 52) % 2 ^ 52 + 2 ^ 52) * (x + 1)) (t .1)
 
 -- at most 54 digits
-handed-small : (c : tie.After-brought) → c .brought .result < 2 ^ 54
+handed-small : (c : tie.After-normalise) → c .normalise .result < 2 ^ 54
 handed-small c = rw (handed c) (lt-of-lt-of-le (mul-lt-mul-of-pos-right {k = k-of (c .before .before .before) % 2 + 1} (omega arith) (omega arith)) (mul-le-mul-left {n = 2} (2 ^ 53) (omega arith)))
 
--- what was settled, over the number brought to size
+-- what was settled, over the normalised number
 found : (c : tie.Else2) → c .before .settle .result ≡ nearestRoot (scaled (q-of (c .before .before .before .before .before) * 2 ^ k-of (c .before .before .before .before .before)))
 found c =
     let s = c .before .before .before .before .before in
@@ -77,8 +77,8 @@ float-to-bits-g c = same-number (c .before .guess .result) (c .if1 .left)
 add-g : tie.Need-add-g
 add-g c = search needs
 
-brought-requires : tie.Need-brought-requires
-brought-requires c κs = search needs
+normalise-requires : tie.Need-normalise-requires
+normalise-requires c κs = search needs
 
 settle-requires : tie.Need-settle-requires
 settle-requires c κs = omega (arith, handed-small c)
@@ -105,7 +105,7 @@ normal-spec =
     returns
     float-to-bits-g
     add-g
-    brought-requires
+    normalise-requires
     settle-requires
     returns-2
     sub-result

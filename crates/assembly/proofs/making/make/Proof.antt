@@ -1,31 +1,31 @@
 -- `making::make` meets its contract: sizes that are refused change nothing, and a table that fits is made.
-use mathlib.Core.Path.{sym, _∙_}
+use mathlib.Core.Path.{sym, ap, _∙_}
 use borrow.Author.Needs.{needs}
-use lib.ListN.{length}
-use Rattle.assembly.specs.Making.{sizeVerdict}
-use Rattle.assembly.proofs.Sizes.{fits, refused, made-of, kept, written}
+use Rattle.table.specs.Buffers.{Outcome, buffers}
+use Rattle.table.proofs.Outcomes.{refused, accepted}
+use Rattle.assembly.specs.declared.making.Made.{Made}
+use Rattle.assembly.specs.declared.making.Made.the-variants as made
+use Rattle.assembly.specs.declared.sections.Tail.{Tail}
+use Rattle.assembly.proofs.Sizes.{fits}
 use Rattle.assembly.proofs.making.make.Statement.{statement}
 use Rattle.assembly.proofs.making.make.Tie as tie
+
+abbrev asMade : Outcome Tail → Outcome Made
+asMade o = record { answer = made.Tail (o .answer); buffers = o .buffers }
 
 put-all-requires : tie.Need-put-all-requires
 put-all-requires c κs =
     let r = fits _ _ _ _ _ (sym (c .before .before .before .before .before .size-verdict .ensures) ∙ c .before .before .before .enum-told .given .1) in
-    ((r .low, r .same, r .high), (r .in-nodes, r .in-tags, r .in-slots))
+    (r .low, r .same, r .room)
 
 returns : tie.Need-returns
 returns c =
-    let a = c .before .before .before .before .before .before .before .before .before .args in
-    let v = sizeVerdict (a .xs .now) (a .ys .now) (a .nodes .now) (a .tags .now) (a .slots .now) in
-    let e = sym (c .before .before .before .size-verdict .ensures) ∙ c .before .refusal .given .1 in
-    (refused v _ _ e, (kept v _ _ _ e, (kept v _ _ _ e, kept v _ _ _ e)))
+    refused _ made.Refused _ _ _ (sym (c .before .before .before .size-verdict .ensures) ∙ c .before .refusal .given .1)
 
 returns-2 : tie.Need-returns-2
 returns-2 c =
-    let a = c .before .before .before .before .before .before .before .before .before .before .before .before .before .before .before .before .before .before .args in
-    let v = sizeVerdict (a .xs .now) (a .ys .now) (a .nodes .now) (a .tags .now) (a .slots .now) in
     let e = sym (c .before .before .before .before .before .before .before .before .before .before .before .before .size-verdict .ensures) ∙ c .before .before .before .before .before .before .before .before .before .before .enum-told .given .1 in
-    let m = c .before .before .before .before .before .before .put-all .ensures in
-    (made-of v _ _ e (m .0), (written v _ _ _ e (m .1 .0), (written v _ _ _ e (m .1 .1 .0), written v _ _ _ e (m .1 .1 .1))))
+    accepted _ made.Refused _ _ _ e (ap asMade (c .before .before .before .before .before .before .put-all .ensures))
 
 pub make-spec : {M : Type 1} → statement M
 make-spec =

@@ -1,10 +1,11 @@
 -- `sections::copy` meets its contract. The invariant: the first k entries are written.
-use Prim.Native.Nat.{_+_, _-_, _≤_}
+use Prim.Native.Nat.{_+_, _-_, _*_, _≤_}
 use native.Mathlib.Omega.{arith}
 use mathlib.Core.Path.{_≡_, refl}
 use borrow.Author.Needs.{needs}
 use lib.Ieee.{nan}
 use lib.ListN.{length, getD, length-set}
+use Rattle.numbers.specs.Sizes.{fieldCount, slotCount}
 use Rattle.numbers.specs.Overlay.{overlay}
 use Rattle.numbers.proofs.Overlay.{overlay-none, overlay-more}
 use Rattle.assembly.proofs.sections.copy.Statement.{statement}
@@ -12,10 +13,10 @@ use Rattle.assembly.proofs.sections.copy.Tie as tie
 
 abbrev Inv-loop : tie.InvT-loop
 Inv-loop to₀ at from k₀ to k =
-    (k ≤ 24) × (at + 24 ≤ length to₀) × (at ≤ 98304) × (length from ≡ 24) × (length to ≡ length to₀) × (to ≡ overlay at k (λ j. getD from j nan) to₀)
+    (k ≤ fieldCount) × (at + fieldCount ≤ length to₀) × (at ≤ slotCount * 4096) × (length from ≡ fieldCount) × (length to ≡ length to₀) × (to ≡ overlay at k (λ j. getD from j nan) to₀)
 
 abbrev μ-loop : tie.MeasureT-loop
-μ-loop to₀ at from k₀ to k = 24 - k
+μ-loop to₀ at from k₀ to k = fieldCount - k
 
 loop-holds : tie.Need-loop-holds Inv-loop μ-loop
 loop-holds c = (search needs, search needs, search needs, search needs, refl, overlay-none _ _ _)
@@ -52,7 +53,7 @@ same-length c = search needs
 returns : tie.Need-returns Inv-loop μ-loop
 returns c =
     let l = c .before .loop in
-    let e : l .k ≡ 24 = omega arith in
+    let e : l .k ≡ fieldCount = omega arith in
     rw e at (l .inv .5)
 
 pub copy-spec : {M : Type 1} → statement M

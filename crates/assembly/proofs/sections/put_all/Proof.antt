@@ -3,18 +3,25 @@ use native.Mathlib.Omega.{arith}
 use mathlib.Core.Path.{_≡_, sym, ap, _∙_}
 use borrow.Author.Needs.{needs}
 use Rattle.record.specs.Reading.{recordAt}
-use Prim.Native.Nat.{_-_}
+use mathlib.Core.List.{List}
+use Prim.Native.Nat.{ℕ, _-_}
+use lib.Ieee.{Float}
 use lib.ListN.{length}
+use Rattle.table.specs.Buffers.{outcome}
+use Rattle.assembly.specs.declared.sections.Tail.{Tail}
 use Rattle.assembly.proofs.Places.{nodes-hold}
 use Rattle.assembly.proofs.ReadBack.{record-read-back}
 use Rattle.assembly.proofs.sections.put_all.Statement.{statement}
 use Rattle.assembly.proofs.sections.put_all.Tie as tie
 
+all : {t u : Tail} {n m : List Float} {g h : List ℕ} {s l : List Float} → t ≡ u → n ≡ m → g ≡ h → s ≡ l → outcome t n g s ≡ outcome u m h l
+all e f g h = rw (e, f, g, h)
+
 put-sections-requires : tie.Need-put-sections-requires
 put-sections-requires c κs =
     let s = c .before .before .before .before .before .before .before .before .before .before .before .before in
     let a = s .args in
-    (search needs, (search needs, nodes-hold (a .xs .now) (a .ys .now) (a .frame) _ _ (c .before .before .before .before .before .fill .ensures) (omega arith)))
+    (search needs, nodes-hold (a .xs .now) (a .ys .now) (a .frame) _ _ (c .before .before .before .before .before .fill .ensures) (s .pre .2 .in-nodes))
 
 tail-of-requires : tie.Need-tail-of-requires
 tail-of-requires c κs =
@@ -24,7 +31,9 @@ tail-of-requires c κs =
     (search needs, (search needs, (rw (p .1 .0, p .1 .1) (record-read-back (a .xs .now) (a .ys .now) (a .frame) (length (a .xs .now) - 2) (a .tags .now) (a .slots .now) (omega arith) (omega arith) (omega arith)), p .0)))
 
 returns : tie.Need-returns
-returns c = let p = c .before .before .before .before .before .before .before .put-sections .ensures in (c .tail-of .ensures, (c .before .before .before .before .before .before .before .before .before .before .before .before .before .fill .ensures, (p .1 .0, p .1 .1)))
+returns c =
+    let (_, (tags, slots)) = c .before .before .before .before .before .before .before .put-sections .ensures in
+    all (c .tail-of .ensures) (c .before .before .before .before .before .before .before .before .before .before .before .before .before .fill .ensures) tags slots
 
 pub put-all-spec : {M : Type 1} → statement M
 put-all-spec =

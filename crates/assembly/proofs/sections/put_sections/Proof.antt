@@ -5,6 +5,7 @@ use native.Mathlib.Omega.{arith}
 use mathlib.Core.Path.{_≡_, refl, sym, ap, _∙_}
 use borrow.Author.Needs.{needs}
 use lib.ListN.{length, length-set}
+use Rattle.numbers.specs.Sizes.{slotCount}
 use Rattle.numbers.specs.Overlay.{overlay}
 use Rattle.numbers.proofs.Overlay.{overlay-none, length-overlay}
 use Rattle.table.specs.Table.{at, nodeAt, totalAt}
@@ -16,9 +17,9 @@ use Rattle.assembly.proofs.sections.put_sections.Tie as tie
 abbrev Inv-loop : tie.InvT-loop
 Inv-loop xs ys frame nodes tags₀ slots₀ count total₀ before₀ i₀ tags slots total before i =
     (i ≤ count) × (count + 1 ≡ length xs) × (2 ≤ length xs) × (length xs ≡ length ys) × (length xs ≤ length nodes) × (length xs ≤ 4096) × (length xs - 1 ≤ length tags₀)
-    × (24 * (length xs - 1) ≤ length slots₀) × (length tags ≡ length tags₀) × (length slots ≡ length slots₀)
+    × (slotCount * (length xs - 1) ≤ length slots₀) × (length tags ≡ length tags₀) × (length slots ≡ length slots₀)
     × ((k : ℕ) → k < length xs → at nodes k ≡ nodeAt xs ys frame k) × (total ≡ totalAt xs ys frame i) × (before ≡ totalAt xs ys frame (i - 1))
-    × (tags ≡ overlay 0 i (tagAt xs ys frame) tags₀) × (slots ≡ overlay 0 (24 * i) (slotAt xs ys frame) slots₀)
+    × (tags ≡ overlay 0 i (tagAt xs ys frame) tags₀) × (slots ≡ overlay 0 (slotCount * i) (slotAt xs ys frame) slots₀)
 
 abbrev μ-loop : tie.MeasureT-loop
 μ-loop xs ys frame nodes tags₀ slots₀ count total₀ before₀ i₀ tags slots total before i = count - i
@@ -40,7 +41,7 @@ loop-holds c =
       search needs,
       refl,
       refl,
-      s .pre .1 .1,
+      s .pre .1,
       refl,
       refl,
       overlay-none 0 _ _,
@@ -54,7 +55,7 @@ put-requires : tie.Need-put-requires Inv-loop μ-loop
 put-requires c κs =
     let l = c .before .before .before .before .loop in
     let a : l .i < length (l .tags) = omega arith in
-    let b : 24 * l .i + 24 ≤ length (l .slots) = omega arith in
+    let b : slotCount * l .i + slotCount ≤ length (l .slots) = omega arith in
     (a, b, omega arith)
 
 add-total : tie.Need-add-total Inv-loop μ-loop

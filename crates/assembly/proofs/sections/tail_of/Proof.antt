@@ -5,8 +5,9 @@ use native.Mathlib.Nat.{add-sub-cancel-left}
 use mathlib.Core.Path.{_≡_, ap, _∙_}
 use borrow.Author.Needs.{needs}
 use lib.ListN.{length}
+use Rattle.numbers.specs.Sizes.{slotCount}
 use Rattle.section.specs.Section.{value}
-use Rattle.record.specs.Number.{answerIn, orNought}
+use Rattle.record.specs.Number.{answerIn, orZero}
 use Rattle.table.specs.Table.{at}
 use Rattle.assembly.specs.Sections.{sectionAt, tailOf}
 use Rattle.assembly.proofs.Rows.{total-more}
@@ -23,8 +24,8 @@ returns-2 c =
     let s = c .before .before .before .before .before .before .before .before .before .before .before .before in
     let a = s .args in
     let i = length (a .xs .now) - 2 in
-    let read = rw (add-sub-cancel-left (24 * i) 24, s .pre .1 .1 .0) at (c .before .before .before .value-in .ensures) in
-    simp (c .before .before .before .before .before .before .before .if1 .left) (rw (c .before .before .or-nought .ensures, read, total-more _ _ _ _ _ (s .pre .1 .1 .1)))
+    let read = rw (add-sub-cancel-left (slotCount * i) slotCount, s .pre .1 .1 .0) at (c .before .before .before .value-in .ensures) in
+    simp (c .before .before .before .before .before .before .before .if1 .left) (rw (c .before .before .or-zero .ensures, read, total-more _ _ _ _ _ (s .pre .1 .1 .1)))
 
 pub tail-of-spec : {M : Type 1} → statement M
 tail-of-spec =

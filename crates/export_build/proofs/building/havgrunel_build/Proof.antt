@@ -1,13 +1,24 @@
 -- `havgrunel_build` meets its contract: with no room for its answers it asks the library for its refusal alone, and with room it tells what the library built.
-use Prim.Native.Nat.{_≤_}
-use mathlib.Core.Bool.{false}
-use mathlib.Core.Path.{_≡_, sym, _∙_}
+use mathlib.Core.Bool.{Bool, false}
+use mathlib.Core.List.{List}
+use mathlib.Core.Path.{_≡_, sym, ap, _∙_}
 use borrow.Author.Needs.{needs}
+use lib.Ieee.{Float}
 use lib.ListN.{length}
-use Rattle.export_build.specs.Building.{noAnswer}
-use Rattle.export_build.proofs.Tables.{roomy, build-short, build-roomy}
+use Rattle.table.specs.Buffers.{Buffers, Outcome, buffers}
+use Rattle.table.specs.Method.{new}
+use Rattle.table.specs.declared.method.ConvexMonotone.{ConvexMonotone}
+use Rattle.table.specs.declared.ends.Seam.{Seam}
+use Rattle.curve.specs.Build.{buildOutcome}
+use Rattle.curve.specs.declared.curve.Built.{Built}
+use Rattle.export_build.specs.Building.{seamOf, noAnswer, shortRefusal}
+use Rattle.export_build.proofs.Across.{roomy, curve-short, curve-roomy, build-last}
 use Rattle.export_build.proofs.building.havgrunel_build.Statement.{statement}
 use Rattle.export_build.proofs.building.havgrunel_build.Tie as tie
+
+-- what is built with the settings and the seam that came across
+same-build : (x y : List Float) (m n : ConvexMonotone) (hold : Bool) (s t : Seam) (b : Buffers) → m ≡ n → s ≡ t → buildOutcome x y m hold s b ≡ buildOutcome x y n hold t b
+same-build x y m n hold s t b e f = ap (λ (k : ConvexMonotone). buildOutcome x y k hold s b) e ∙ ap (λ (k : Seam). buildOutcome x y n hold k b) f
 
 returns : tie.Need-returns
 returns c =
@@ -16,8 +27,12 @@ returns c =
     let s = n .before in
     let w = s .before in
     let a = w .before .before .before .before .before .before .before .before .args in
-    build-short (a .knots .now) (a .averages .now) (a .quadraticity) (a .monotonicity) (a .positive) (a .hold) (a .seamed) (a .seam-count) (a .seam-node) (a .nodes .now) (a .tags .now) (a .slots .now)
-    (a .sections .now) (a .tail .now) _ _ (w .new .ensures) (s .seam-of .ensures) _ _ (sym (n .no-answer .ensures) ∙ v .before .if1 .taken) (v .build-verdict .ensures) (c .last-refusal .ensures)
+    let b = buffers (a .nodes .now) (a .tags .now) (a .slots .now) in
+    curve-short b (a .sections .now) (a .tail .now)
+    (buildOutcome (a .knots .now) (a .averages .now) (new (a .quadraticity) (a .monotonicity) (a .positive)) (a .hold) (seamOf (a .seamed) (a .seam-count) (a .seam-node)) b) _
+    (sym (n .no-answer .ensures) ∙ v .before .if1 .taken)
+    (build-last (a .knots .now) (a .averages .now) (w .new .result) (a .hold) (s .seam-of .result) b _ _ (v .build-verdict .ensures) (c .last-refusal .ensures)
+    ∙ ap (λ (o : Outcome Built). shortRefusal (o .answer)) (same-build (a .knots .now) (a .averages .now) _ _ (a .hold) _ _ b (w .new .ensures) (s .seam-of .ensures)))
 
 -- past the test for room
 roomy-here : (c : tie.Else1) → let a = c .before .before .before .before .before .before .before .before .before .before .before .args in
@@ -35,8 +50,9 @@ returns-2 c =
     let s = e .before .before in
     let w = s .before in
     let a = w .before .before .before .before .before .before .before .before .args in
-    build-roomy (a .knots .now) (a .averages .now) (a .quadraticity) (a .monotonicity) (a .positive) (a .hold) (a .seamed) (a .seam-count) (a .seam-node) (a .nodes .now) (a .tags .now) (a .slots .now)
-    (a .sections .now) (a .tail .now) _ _ (w .new .ensures) (s .seam-of .ensures) _ _ _ _ _ _ _ (roomy-here e) (b .build .ensures) (t .tell .ensures)
+    let lent = buffers (a .nodes .now) (a .tags .now) (a .slots .now) in
+    curve-roomy lent (a .sections .now) (a .tail .now) _ _ _ _ _ (roomy-here e)
+    (b .build .ensures ∙ same-build (a .knots .now) (a .averages .now) _ _ (a .hold) _ _ lent (w .new .ensures) (s .seam-of .ensures)) (t .tell .ensures)
 
 pub havgrunel-build-spec : {M : Type 1} → statement M
 havgrunel-build-spec =

@@ -2,7 +2,7 @@
 use native.Mathlib.Omega.{arith}
 use borrow.Author.Needs.{needs}
 use lib.ListN.{length-set}
-use Rattle.export_build.proofs.Told.{curve-refused, curve-written}
+use Rattle.export_build.proofs.Across.{curve-refused, curve-written}
 use Rattle.export_build.proofs.building.tell.Statement.{statement}
 use Rattle.export_build.proofs.building.tell.Tie as tie
 

@@ -1,13 +1,27 @@
 -- `havgrunel_grow` meets its contract: with no room for its answers it asks for the refusal alone, and with room it tells what the library grew.
+use Prim.Native.Nat.{ℕ}
 use mathlib.Core.Bool.{false}
-use mathlib.Core.Path.{_≡_, sym, _∙_}
+use mathlib.Core.List.{List}
+use mathlib.Core.Path.{_≡_, sym, ap, _∙_}
 use borrow.Author.Needs.{needs}
+use lib.Ieee.{Float}
 use lib.ListN.{length}
-use Rattle.export_build.specs.Building.{noAnswer}
-use Rattle.export_build.proofs.Tables.{roomy}
-use Rattle.export_build.proofs.Growths.{grow-short, grow-roomy}
+use Rattle.table.specs.Buffers.{Buffers, Outcome, buffers}
+use Rattle.table.specs.Method.{new}
+use Rattle.table.specs.declared.method.ConvexMonotone.{ConvexMonotone}
+use Rattle.curve.specs.declared.curve.Built.{Built}
+use Rattle.growth.specs.Growth.{carriedAt, growOutcome, holds}
+use Rattle.growth.specs.declared.growth.Previous.{Previous}
+use Rattle.export_build.specs.Building.{noAnswer, shortRefusal}
+use Rattle.export_build.specs.Growing.{previousOf}
+use Rattle.export_build.proofs.Across.{roomy, curve-short, curve-roomy, grow-last}
 use Rattle.export_build.proofs.growing.havgrunel_grow.Statement.{statement}
 use Rattle.export_build.proofs.growing.havgrunel_grow.Tie as tie
+
+-- what is grown with the settings and the previous curve that came across
+module _ (x y : List Float) (m n : ConvexMonotone) (localisation final : ℕ) (p q : Previous) (tags : List ℕ) (slots : List Float) (b : Buffers) (e : m ≡ n) (f : p ≡ q) where
+  same-grow : growOutcome x y m localisation final p tags slots b ≡ growOutcome x y n localisation final q tags slots b
+  same-grow = ap (λ (k : ConvexMonotone). growOutcome x y k localisation final p tags slots b) e ∙ ap (λ (k : Previous). growOutcome x y n localisation final k tags slots b) f
 
 returns : tie.Need-returns
 returns c =
@@ -15,8 +29,14 @@ returns c =
     let p = n .before in
     let w = p .before in
     let a = w .before .before .before .before .before .before .before .before .before .before .args in
-    grow-short (a .knots .now) (a .averages .now) (a .quadraticity) (a .monotonicity) (a .positive) (a .localisation) (a .final-size) (a .grown) (a .previous-sections) (a .previous-held) (a .previous-tags .now) (a .previous-slots .now)
-    (a .nodes .now) (a .tags .now) (a .slots .now) (a .sections .now) (a .tail .now) _ _ (w .new .ensures) (p .previous-of .ensures) _ (sym (n .no-answer .ensures) ∙ c .before .if1 .taken) (c .refusal-of .ensures)
+    let b = buffers (a .nodes .now) (a .tags .now) (a .slots .now) in
+    curve-short b (a .sections .now) (a .tail .now)
+    (growOutcome (a .knots .now) (a .averages .now) (new (a .quadraticity) (a .monotonicity) (a .positive)) (a .localisation) (a .final-size)
+    (previousOf (a .grown) (a .previous-sections) (a .previous-held)) (a .previous-tags .now) (a .previous-slots .now) b) _ (sym (n .no-answer .ensures) ∙ c .before .if1 .taken)
+    (grow-last (a .knots .now) (a .averages .now) (w .new .result) (holds (length (a .knots .now)) (a .final-size))
+    (carriedAt (length (a .knots .now)) (a .localisation) (p .previous-of .result) (a .previous-tags .now) (a .previous-slots .now)) b _ (c .refusal-of .ensures)
+    ∙ ap (λ (o : Outcome Built). shortRefusal (o .answer))
+    (same-grow (a .knots .now) (a .averages .now) _ _ (a .localisation) (a .final-size) _ _ (a .previous-tags .now) (a .previous-slots .now) b (w .new .ensures) (p .previous-of .ensures)))
 
 -- past the test for room
 roomy-here : (c : tie.Else1) → let a = c .before .before .before .before .before .before .before .before .before .before .before .before .before .args in
@@ -34,8 +54,10 @@ returns-2 c =
     let p = e .before .before in
     let w = p .before in
     let a = w .before .before .before .before .before .before .before .before .before .before .args in
-    grow-roomy (a .knots .now) (a .averages .now) (a .quadraticity) (a .monotonicity) (a .positive) (a .localisation) (a .final-size) (a .grown) (a .previous-sections) (a .previous-held) (a .previous-tags .now) (a .previous-slots .now)
-    (a .nodes .now) (a .tags .now) (a .slots .now) (a .sections .now) (a .tail .now) _ _ (w .new .ensures) (p .previous-of .ensures) _ _ _ _ _ _ _ (roomy-here e) (g .grow .ensures) (t .tell .ensures)
+    let lent = buffers (a .nodes .now) (a .tags .now) (a .slots .now) in
+    curve-roomy lent (a .sections .now) (a .tail .now) _ _ _ _ _ (roomy-here e)
+    (g .grow .ensures ∙ same-grow (a .knots .now) (a .averages .now) _ _ (a .localisation) (a .final-size) _ _ (a .previous-tags .now) (a .previous-slots .now) lent (w .new .ensures) (p .previous-of .ensures))
+    (t .tell .ensures)
 
 pub havgrunel-grow-spec : {M : Type 1} → statement M
 havgrunel-grow-spec =

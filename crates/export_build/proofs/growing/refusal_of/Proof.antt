@@ -3,7 +3,7 @@ use mathlib.Core.Path.{sym, _∙_}
 use borrow.Author.Needs.{needs}
 use lib.ListN.{length}
 use Rattle.growth.specs.Growth.{carriedAt}
-use Rattle.export_build.proofs.Growths.{carried-refused, carried-seam}
+use Rattle.export_build.proofs.Across.{carried-refused, carried-seam}
 use Rattle.export_build.proofs.growing.refusal_of.Statement.{statement}
 use Rattle.export_build.proofs.growing.refusal_of.Tie as tie
 

@@ -8,7 +8,7 @@ use Rattle.export_many.proofs.many.havgrunel_values.Tie as tie
 returns : tie.Need-returns
 returns c =
     let a = c .before .before .before .before .before .before .before .before .before .before .before .args in
-    many-told value (a .knots .now) _ _ (a .tags .now) (a .slots .now) (a .xs .now) (a .answers .now) _ _ _ (c .before .before .before .before .before .curve-with .ensures) (c .before .before .before .values .ensures) (c .number .ensures)
+    many-told value (a .knots .now) _ _ (a .tags .now) (a .slots .now) (a .xs .now) (a .answers .now) _ _ (c .before .before .before .before .before .curve-with .ensures) (c .before .before .before .values .ensures) (c .number .ensures)
 
 pub havgrunel-values-spec : {M : Type 1} → statement M
 havgrunel-values-spec =

@@ -14,7 +14,7 @@ returns c =
     let t = c .before .before in
     let v = t .before .before in
     let a = v .before .before .before .before .before .before .args in
-    query-told _ _ _ _ _ _
+    query-told _ _ (a .answer .now) _
     (v .primitive .ensures ∙ ap (λ (k : Curve). ask (λ (s : Section). primitive s (a .x)) (coveredAt (a .knots .now) k (a .tags .now) (a .slots .now) (a .x))) (v .before .curve-with .ensures))
     (t .tell .ensures)
 

@@ -10,8 +10,8 @@ tell-spec =
     tie.close
     (tie.spec
     (λ c. search needs) (λ c κs. search needs) (λ c. search needs) (λ c κs. search needs)
-    (λ c. query-short _ _ _ _ _ (lt-ltb _ _ (c .before .if1 .taken)) (c .before .before .before .asked2 .given .1) (c .number2 .ensures))
+    (λ c. query-short _ _ _ _ (lt-ltb _ _ (c .before .if1 .taken)) (c .before .before .before .asked2 .given .1) (c .number2 .ensures))
     (λ c. search needs)
-    (λ c. query-refused _ _ _ _ _ (c .before .before .asked .given .1) (c .number .ensures))
+    (λ c. query-refused _ _ _ _ (c .before .before .asked .given .1) (c .number .ensures))
     (λ c. search needs)
-    (λ c. query-written _ _ _ _ (le-ltb _ _ (c .if1 .left)) (c .before .before .asked2 .given .1)))
+    (λ c. query-written _ (c .before .before .before .before .before .args .answer .now) _ (le-ltb _ _ (c .if1 .left)) (c .before .before .asked2 .given .1)))

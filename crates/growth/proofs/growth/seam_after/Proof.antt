@@ -4,14 +4,15 @@ use native.Mathlib.Nat.{add-sub-cancel-left}
 use mathlib.Core.Path.{_≡_, sym, _∙_}
 use borrow.Author.Needs.{needs}
 use lib.ListN.{take, drop, getD}
+use Rattle.numbers.specs.Sizes.{slotCount}
 use Rattle.record.specs.Reading.{readSection}
 use Rattle.growth.proofs.Seams.{after-none, after-section, after-illegal}
 use Rattle.growth.proofs.growth.seam_after.Statement.{statement}
 use Rattle.growth.proofs.growth.seam_after.Tie as tie
 
 read : (c : tie.After-read-section) → let a = c .before .before .before .before .before .before .args in
-    c .read-section .result ≡ readSection (getD (a .tags .now) (a .count - 1) 0) (take 24 (drop (24 * (a .count - 1)) (a .slots .now)))
-read c = rw (add-sub-cancel-left (24 * (c .before .before .before .before .before .before .args .count - 1)) 24) at (c .read-section .ensures)
+    c .read-section .result ≡ readSection (getD (a .tags .now) (a .count - 1) 0) (take slotCount (drop (slotCount * (a .count - 1)) (a .slots .now)))
+read c = rw (add-sub-cancel-left (slotCount * (c .before .before .before .before .before .before .args .count - 1)) slotCount) at (c .read-section .ensures)
 
 returns : tie.Need-returns
 returns c = let a = c .before .before .before .args in after-none (a .count) (a .tags .now) (a .slots .now) (c .if1 .taken)

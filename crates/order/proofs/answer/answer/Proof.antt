@@ -5,27 +5,26 @@ use borrow.Author.Needs.{needs}
 use borrow.Author.Tests.{lt-ltb, le-ltb, not-true, not-false}
 use lib.ListN.{length}
 use Rattle.numbers.proofs.Ways.{told}
-use Rattle.order.proofs.Texts.{too-short, unwritten, malformed, malformed-text, well, well-text}
+use Rattle.order.proofs.Texts.{too-short, malformed, well}
 use Rattle.order.proofs.answer.answer.Statement.{statement}
 use Rattle.order.proofs.answer.answer.Tie as tie
 
 returns : tie.Need-returns
-returns c = let a = c .before .before .before .args in let h = lt-ltb (length (a .out .now)) 2506 (c .if1 .taken) in (too-short (a .order .now) (length (a .out .now)) h, unwritten (a .order .now) (a .out .now) h)
+returns c = let a = c .before .before .before .args in too-short (a .order .now) (a .out .now) (lt-ltb (length (a .out .now)) 2506 (c .if1 .taken))
 
 returns-2 : tie.Need-returns-2
 returns-2 c =
     let a = c .before .before .before .before .before .before .before .before .before .args in
     let h = le-ltb (length (a .out .now)) 2506 (c .before .before .before .before .before .before .if1 .left) in
     let f = told (c .before .before .before .before .before .well-formed .ensures) (not-true _ (c .before .before .before .before .if2 .taken)) in
-    (malformed (a .order .now) (length (a .out .now)) h f, malformed-text (a .order .now) (a .out .now) _ h f (c .before .before .put-build .ensures))
+    malformed (a .order .now) (a .out .now) _ h f (c .before .before .put-build .ensures)
 
 returns-3 : tie.Need-returns-3
 returns-3 c =
     let a = c .before .before .before .before .before .before .before .before .before .before .before .before .before .before .before .before .before .before .before .args in
     let h = le-ltb (length (a .out .now)) 2506 (c .before .before .before .before .before .before .before .before .before .before .before .before .before .before .before .before .if1 .left) in
     let f = told (c .before .before .before .before .before .before .before .before .before .before .before .before .before .before .before .well-formed .ensures) (not-false _ (c .before .before .before .before .before .before .before .before .before .before .before .before .before .before .if2 .left)) in
-    let t = c .before .before .before .before .before .before .before .answer-form .ensures in
-    (well (a .order .now) (length (a .out .now)) _ h f (t .0), well-text (a .order .now) (a .out .now) _ h f (t .1))
+    well (a .order .now) (a .out .now) _ h f (c .before .before .before .before .before .before .before .answer-form .ensures)
 
 answer-form-requires : tie.Need-answer-form-requires
 answer-form-requires c κs = let f = told (c .before .before .before .before .before .before .before .well-formed .ensures) (not-false _ (c .before .before .before .before .before .before .if2 .left)) in (f, search needs, search needs, search needs)

@@ -8,8 +8,9 @@ use lib.Ieee.{Float}
 use lib.ListN.{length}
 use lib.Seq.{length-take-le}
 use Rattle.numbers.proofs.Overlay.{length-overlay}
+use Rattle.table.specs.Buffers.{buffers}
 use Rattle.order.specs.Form.{pointsOf, numberAt}
-use Rattle.order.proofs.Texts.{counts, read-knots, read-averages, form-long, form-text}
+use Rattle.order.proofs.Texts.{counts, read-knots, read-averages, form-text}
 use Rattle.order.proofs.answer.answer_form.Statement.{statement}
 use Rattle.order.proofs.answer.answer_form.Tie as tie
 
@@ -62,10 +63,7 @@ returns c =
     let e = c .before .before .before .before .before .before .before .before .before .before .before .before .before .before .before .before .before .before .before .before .before .before .before .points-of .ensures .0 ∙ ap pointsOf (c .before .before .before .before .before .before .before .before .before .before .before .before .before .before .before .before .before .before .before .before .before .before .before .before .header-of .ensures .0) in
     let ex = read-knots o _ (a .xs .now) _ e (omega (arith, k, l)) (c .before .before .before .before .before .before .before .before .before .before .before .before .before .before .before .before .before .before .before .before .before .read-floats .ensures) in
     let ey = read-averages o _ (a .ys .now) _ e (omega (arith, k, m)) (c .before .before .before .before .before .before .before .before .before .before .before .before .before .before .before .before .before .read-floats2 .ensures) in
-    let t = c .before .before .before .before .before .before .before .before .answer-table .ensures in (
-      form-long o _ _ (a .nodes .now) (a .tags .now) (a .slots .now) _ ex ey (t .0),
-      form-text o _ _ (a .nodes .now) (a .tags .now) (a .slots .now) (a .out .now) _ ex ey (t .1),
-    )
+    form-text o _ _ (buffers (a .nodes .now) (a .tags .now) (a .slots .now)) (a .out .now) _ ex ey (c .before .before .before .before .before .before .before .before .answer-table .ensures)
 
 pub answer-form-spec : {M : Type 1} → statement M
 answer-form-spec =

@@ -5,9 +5,9 @@ use mathlib.Core.Path.{_≡_, ap, _∙_}
 use borrow.Author.Needs.{needs}
 use lib.Ieee.{Float}
 use Prim.Native.Nat.{ℕ}
-use Rattle.table.specs.declared.method.ConvexMonotone.{ConvexMonotone}
+use Rattle.table.specs.Buffers.{buffers}
 use Rattle.order.specs.Form.{bitOf, method, hold}
-use Rattle.order.proofs.Texts.{told-long, told-text}
+use Rattle.order.proofs.Texts.{told-text}
 use Rattle.order.proofs.answer.answer_table.Statement.{statement}
 use Rattle.order.proofs.answer.answer_table.Tie as tie
 
@@ -17,14 +17,9 @@ put-answer-requires c κs = let q = c .before .before .before .before .before .b
 returns : tie.Need-returns
 returns c =
     let a = c .before .before .before .before .before .before .before .before .before .before .before .before .before .before .before .before .before .before .before .before .before .before .before .before .before .before .args in
-    let o = a .order .now in
-    let b = c .before .before .before .before .before .before .before .before .before .before .before .before .build .ensures in
-    let p = c .before .before .put-answer .ensures in
     let em = c .before .before .before .before .before .before .before .before .before .before .before .before .before .before .before .before .before .method-of .ensures in
-    let eh = c .before .before .before .before .before .before .before .before .before .before .before .before .before .before .before .before .bit .ensures ∙ ap (λ (n : ℕ). bitOf n 0x4000_0000) (c .before .before .before .before .before .before .before .before .before .before .before .before .before .before .before .before .before .before .header-of .ensures .0) in (
-      told-long o (a .xs .now) (a .ys .now) (a .nodes .now) (a .tags .now) (a .slots .now) _ _ _ _ em eh (b .0) (p .0),
-      told-text o (a .xs .now) (a .ys .now) (a .nodes .now) (a .tags .now) (a .slots .now) _ _ _ _ _ _ _ em eh (b .0) (b .1 .1 .0) (b .1 .1 .1) (p .1),
-    )
+    let eh = c .before .before .before .before .before .before .before .before .before .before .before .before .before .before .before .before .bit .ensures ∙ ap (λ (n : ℕ). bitOf n 0x4000_0000) (c .before .before .before .before .before .before .before .before .before .before .before .before .before .before .before .before .before .before .header-of .ensures .0) in
+    told-text (a .order .now) (a .xs .now) (a .ys .now) (buffers (a .nodes .now) (a .tags .now) (a .slots .now)) _ _ _ (a .out .now) _ em eh (c .before .before .before .before .before .before .before .before .before .before .before .before .build .ensures) (c .before .before .put-answer .ensures)
 
 pub answer-table-spec : {M : Type 1} → statement M
 answer-table-spec =

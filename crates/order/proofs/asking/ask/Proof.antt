@@ -5,7 +5,7 @@ use lib.Ieee.{Float}
 use Rattle.section.specs.Section.{value, primitive}
 use Rattle.section.specs.declared.section.Section.{Section}
 use Rattle.query.specs.Query.{coveredAt}
-use Rattle.query.specs.declared.asked.ToldNumber.{ToldNumber}
+use Rattle.query.specs.declared.answer.ToldNumber.{ToldNumber}
 use Rattle.order.proofs.Queries.{none, not-second, both}
 use Rattle.order.proofs.asking.ask.Statement.{statement}
 use Rattle.order.proofs.asking.ask.Tie as tie

@@ -6,6 +6,7 @@ use mathlib.Core.Path.{_≡_, sym, _∙_}
 use borrow.Author.Needs.{needs}
 use borrow.Author.Tests.{not-true, not-false}
 use lib.ListN.{length}
+use Rattle.numbers.specs.Sizes.{slotCount}
 use Rattle.numbers.specs.Every.{allBelow}
 use Rattle.numbers.proofs.Every.{all-none, all-more, all-fails}
 use Rattle.record.specs.Reading.{isSection, recordAt}
@@ -13,7 +14,7 @@ use Rattle.query.proofs.many.all_legal.Statement.{statement}
 use Rattle.query.proofs.many.all_legal.Tie as tie
 
 abbrev Inv-loop : tie.InvT-loop
-Inv-loop tags slots sections i₀ i = (i ≤ sections) × (sections ≤ length tags) × (24 * sections ≤ length slots) × (sections ≤ 4096) × (allBelow i (λ k. isSection (recordAt tags slots k)) ≡ true)
+Inv-loop tags slots sections i₀ i = (i ≤ sections) × (sections ≤ length tags) × (slotCount * sections ≤ length slots) × (sections ≤ 4096) × (allBelow i (λ k. isSection (recordAt tags slots k)) ≡ true)
 
 abbrev μ-loop : tie.MeasureT-loop
 μ-loop tags slots sections i₀ i = sections - i

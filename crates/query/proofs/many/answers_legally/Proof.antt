@@ -19,14 +19,14 @@ answers-legally-spec =
     tie.close
     (tie.spec
     (λ c. omega (arith, fits (c .before .before .before) .low))
-    (λ c. omega (arith, fits (c .before .before .before) .low, fits (c .before .before .before) .high))
+    (λ c. omega (arith, fits (c .before .before .before) .low, fits (c .before .before .before) .room .high))
     (λ c. omega (arith, fits (c .before .before .before .before) .low))
     (λ c. let a = c .before .before .before .before .before .args in sym (ap isSection (from-the-last (a .xs .now) (a .curve) (a .tags .now) (a .slots .now) (a .q) (c .if1 .taken))))
-    (λ c κs. (fits (c .before .before .before .before .before) .low, fits (c .before .before .before .before .before) .high, fits (c .before .before .before .before .before) .up))
+    (λ c κs. (fits (c .before .before .before .before .before) .low, fits (c .before .before .before .before .before) .room .high, fits (c .before .before .before .before .before) .up))
     (λ c κs.
     let f = fits (c .before .before .before .before .before .before) in
     let p = place-le (c .before .before .before .before .before .before .args .xs .now) (c .before .before .before .before .before .before .args .q) in
-    (omega (arith, f .low, f .in-tags, p, c .search .ensures), omega (arith, f .low, f .in-slots, p, c .search .ensures), omega (arith, f .low, f .high, p, c .search .ensures)))
+    (omega (arith, f .low, f .room .in-tags, p, c .search .ensures), omega (arith, f .low, f .room .in-slots, p, c .search .ensures), omega (arith, f .low, f .room .high, p, c .search .ensures)))
     (λ c.
     let a = c .before .before .before .before .before .before .before .args in
     c .legal-at .ensures

@@ -6,7 +6,7 @@ use borrow.Author.Needs.{needs}
 use lib.ListN.{length, length-set}
 use Rattle.numbers.specs.Overlay.{overlay}
 use Rattle.numbers.proofs.Overlay.{overlay-none, overlay-more}
-use Rattle.record.specs.Number.{orNought}
+use Rattle.record.specs.Number.{orZero}
 use Rattle.refusal.specs.declared.Verdict.the-variants.{Accepted}
 use Rattle.table.specs.Table.{at}
 use Rattle.query.specs.Query.{coveredAt}
@@ -63,7 +63,7 @@ loop-again-2 c =
       simp length-set (l .inv .3),
       overlay-more 0 (l .i) _ _ _ _ _ (l .inv .4) (omega arith)
           (place-told (a .xs .now) (a .curve) (a .tags .now) (a .slots .now) (at (a .qs .now) (l .i)) (a .wanted) (c .before .before .before .before .before .before .before .before .before .before .before .before .before .pre .0) (fine (c .before .before .before .before .before .before .before .before .before .before .before .before .before) (l .i) h) (c .before .before .before .if1 .left)
-          _ _ (c .before .before .place-from .ensures) (c .or-nought .ensures ∙ ap orNought (c .before .record-number .ensures))),
+          _ _ (c .before .before .place-from .ensures) (c .or-zero .ensures ∙ ap orZero (c .before .record-number .ensures))),
     )
 
 -- the place that was found has a record
@@ -74,7 +74,7 @@ record-number-requires c κs =
     let f = fits (c .before .before .before .before .before .before .before .before .before .before .before) in
     let p = place-le (a .xs .now) (at (a .qs .now) (l .i)) in
     let e = c .place-from .ensures in
-    (omega (arith, f .low, f .in-tags, p, e), omega (arith, f .low, f .in-slots, p, e), omega (arith, f .low, f .high, p, e))
+    (omega (arith, f .low, f .room .in-tags, p, e), omega (arith, f .low, f .room .in-slots, p, e), omega (arith, f .low, f .room .high, p, e))
 
 returns : tie.Need-returns Inv-loop μ-loop
 returns c =
@@ -90,7 +90,7 @@ fill-spec =
     Inv-loop
     μ-loop
     (λ c. omega (arith, fits (c .before .before .before .before .before) .low))
-    (λ c. omega (arith, fits (c .before .before .before .before .before) .low, fits (c .before .before .before .before .before) .high))
+    (λ c. omega (arith, fits (c .before .before .before .before .before) .low, fits (c .before .before .before .before .before) .room .high))
     (λ c. omega (arith, fits (c .before .before .before .before .before .before) .low))
     loop-holds
     (λ c. search needs)
@@ -101,7 +101,7 @@ fill-spec =
     (λ c. search needs)
     (λ c. omega (arith, c .before .before .before .loop-test .taken))
     loop-again
-    (λ c κs. let l = c .before .before .before .loop in (l .inv .2, fits (c .before .before .before .before .before .before .before .before .before .before) .high, fits (c .before .before .before .before .before .before .before .before .before .before) .up))
+    (λ c κs. let l = c .before .before .before .loop in (l .inv .2, fits (c .before .before .before .before .before .before .before .before .before .before) .room .high, fits (c .before .before .before .before .before .before .before .before .before .before) .up))
     record-number-requires
     (λ c κs. search needs)
     (λ c. search needs)

@@ -16,5 +16,5 @@ known-legal-spec =
     (tie.spec
     (λ c h. never h refl)
     (λ c. omega (arith, fits (c .before .before .before .before) .low))
-    (λ c κs. (fits (c .before .before .before .before) .in-tags, fits (c .before .before .before .before) .in-slots, omega (arith, fits (c .before .before .before .before) .high)))
+    (λ c κs. (fits (c .before .before .before .before) .room .in-tags, fits (c .before .before .before .before) .room .in-slots, omega (arith, fits (c .before .before .before .before) .room .high)))
     (λ c h. sym (c .all-legal .ensures) ∙ h))

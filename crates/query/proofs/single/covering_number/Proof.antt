@@ -29,7 +29,7 @@ record-number-requires c κs =
     let f = fits (c .before .before .before .before .before .before) in
     let p = place-le (c .before .before .before .before .before .before .args .xs .now) (c .before .before .before .before .before .before .args .q) in
     let e = c .search .ensures in
-    (omega (arith, f .low, f .in-tags, p, e), omega (arith, f .low, f .in-slots, p, e), omega (arith, f .low, f .high, p, e))
+    (omega (arith, f .low, f .room .in-tags, p, e), omega (arith, f .low, f .room .in-slots, p, e), omega (arith, f .low, f .room .high, p, e))
 
 returns-2 : tie.Need-returns-2
 returns-2 c =
@@ -43,10 +43,10 @@ covering-number-spec =
     tie.close
     (tie.spec
     (λ c. omega (arith, fits (c .before .before .before) .low))
-    (λ c. omega (arith, fits (c .before .before .before) .low, fits (c .before .before .before) .high))
+    (λ c. omega (arith, fits (c .before .before .before) .low, fits (c .before .before .before) .room .high))
     (λ c. omega (arith, fits (c .before .before .before .before) .low))
     (λ c κs. search needs)
     returns
-    (λ c κs. let f = fits (c .before .before .before .before .before) in (f .low, f .high, f .up))
+    (λ c κs. let f = fits (c .before .before .before .before .before) in (f .low, f .room .high, f .up))
     record-number-requires
     returns-2)

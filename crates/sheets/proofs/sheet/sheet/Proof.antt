@@ -1,43 +1,59 @@
 -- `sheet::sheet` meets its contract: a refused sheet changes nothing, and an accepted one is made from its place on.
-use mathlib.Core.Path.{_≡_, sym, ap, _∙_}
-use mathlib.Core.Bool.{true, false, not}
+use Prim.Native.Nat.{ℕ}
+use mathlib.Core.List.{List}
+use mathlib.Core.Path.{_≡_, sym, _∙_}
 use borrow.Author.Tests.{not-true, not-false}
 use borrow.Author.Needs.{needs}
+use lib.Ieee.{Float}
 use lib.ListN.{length}
-use Rattle.numbers.proofs.Ways.{told, asked-not}
+use Rattle.numbers.proofs.Ways.{told}
+use Rattle.refusal.specs.declared.Refusal.{Refusal}
 use Rattle.refusal.specs.declared.Verdict.{Verdict}
 use Rattle.refusal.specs.declared.Verdict.the-variants as verdict
 use Rattle.refusal.proofs.First.{stops}
+use Rattle.table.specs.Buffers.{Buffers, Outcome, buffers, judged}
 use Rattle.table.specs.Check.{roomTests}
-use Rattle.assembly.proofs.Sizes.{kept, same-left, was-refused, was-made, tail-made}
+use Rattle.table.specs.declared.ends.End.{End}
+use Rattle.table.specs.declared.ends.Frame.{Frame}
+use Rattle.table.proofs.Outcomes.{refused}
+use Rattle.assembly.specs.Making.{after}
+use Rattle.assembly.specs.Sections.{tailOf}
 use Rattle.assembly.specs.declared.sections.Tail.{Tail}
-use Rattle.sheets.specs.Sheet.{numbersTests, sheetVerdict, partVerdict, endOf}
-use Rattle.sheets.proofs.Parts.{settled, sized, enough, too-many, within, outside, refused, drawn-of}
+use Rattle.assembly.proofs.Sizes.{was-refused, was-made}
+use Rattle.sheets.specs.Sheet.{numbersTests, endOf}
+use Rattle.sheets.specs.declared.sheet.SheetBuilt.{SheetBuilt}
+use Rattle.sheets.specs.declared.sheet.SheetBuilt.the-variants as sheet-built
+use Rattle.sheets.specs.declared.sheet.SheetEnd.{SheetEnd}
+use Rattle.sheets.proofs.Parts.{settled, sized, numbers-sound, too-many, within, outside}
 use Rattle.sheets.proofs.sheet.sheet.Statement.{statement}
 use Rattle.sheets.proofs.sheet.sheet.Tie as tie
+
+module _ (place : ℕ) (x y : List Float) (frame : Frame) (right : End) (v : Verdict) (b c : Buffers) where
+  abbrev new : Outcome SheetBuilt
+  new = record { answer = sheet-built.Sheet (endOf right (tailOf x y frame)); buffers = after place x y frame b }
+
+  not-built : (r : Refusal) → v ≡ verdict.Refused r → c ≡ b → record { answer = sheet-built.Refused r; buffers = c } ≡ judged v sheet-built.Refused b new
+  not-built r e g = rw (e, g)
+
+  is-built : (s : SheetEnd) (t : Tail) → v ≡ verdict.Accepted → s ≡ endOf right t → t ≡ tailOf x y frame → c ≡ after place x y frame b →
+      record { answer = sheet-built.Sheet s; buffers = c } ≡ judged v sheet-built.Refused b new
+  is-built s t e f g h = rw (e, f, g, h)
 
 returns : tie.Need-returns
 returns c =
     let a = c .before .before .before .before .before .before .before .before .before .args in
-    let x = a .xs .now in
-    let y = a .ys .now in
-    let v = sheetVerdict x y (a .method) (a .left) (a .right) (a .place) (a .nodes .now) (a .tags .now) (a .slots .now) in
     let h = sym (c .before .before .before .numbers-verdict .ensures) ∙ c .before .enum-told .given .1 in
-    let e = settled x y (a .method) (a .left) (a .right) (a .place) (length (a .nodes .now)) (length (a .tags .now)) (length (a .slots .now)) h ∙ too-many (length x) _ _ _ (c .if1 .taken) in
-    (refused v _ _ e, (kept v _ _ _ e, (kept v _ _ _ e, kept v _ _ _ e)))
+    refused _ sheet-built.Refused _ _ _ (settled (a .xs .now) (a .ys .now) (a .method) (a .left) (a .right) (a .place) _ _ _ h ∙ too-many (length (a .xs .now)) _ _ _ (c .if1 .taken))
 
 returns-2 : tie.Need-returns-2
 returns-2 c =
     let a = c .before .before .before .before .before .before .before .before .before .before .before .args in
     let x = a .xs .now in
-    let y = a .ys .now in
-    let v = sheetVerdict x y (a .method) (a .left) (a .right) (a .place) (a .nodes .now) (a .tags .now) (a .slots .now) in
     let h = sym (c .before .before .before .before .before .numbers-verdict .ensures) ∙ c .before .before .before .enum-told .given .1 in
-    let r = told (c .before .reaches .ensures) (not-true _ (c .if2 .taken)) in
-    let e =
-    settled x y (a .method) (a .left) (a .right) (a .place) (length (a .nodes .now)) (length (a .tags .now)) (length (a .slots .now)) h
-    ∙ outside (a .place) (length (a .nodes .now)) (length (a .tags .now)) (length (a .slots .now)) (length x) (enough x y (a .method) (a .left) (a .right) h) (c .before .before .if1 .left) r in
-    (refused v _ _ e, (kept v _ _ _ e, (kept v _ _ _ e, kept v _ _ _ e)))
+    let s = numbers-sound x (a .ys .now) (a .method) (a .left) (a .right) h in
+    refused _ sheet-built.Refused _ _ _
+    (settled x (a .ys .now) (a .method) (a .left) (a .right) (a .place) _ _ _ h
+    ∙ outside (a .place) (length (a .nodes .now)) (length (a .tags .now)) (length (a .slots .now)) (length x) (s .low) (c .before .before .if1 .left) (told (c .before .reaches .ensures) (not-true _ (c .if2 .taken))))
 
 make-from-requires : tie.Need-make-from-requires
 make-from-requires c κs =
@@ -49,40 +65,31 @@ returns-3 : tie.Need-returns-3
 returns-3 c =
     let a = c .before .before .before .before .before .before .before .before .before .args in
     let x = a .xs .now in
-    let y = a .ys .now in
-    let v = sheetVerdict x y (a .method) (a .left) (a .right) (a .place) (a .nodes .now) (a .tags .now) (a .slots .now) in
     let g = c .before .refusal .given .1 in
-    let e : v ≡ verdict.Refused _ = sym (stops _ _ (numbersTests x y (a .method) (a .left) (a .right)) (roomTests (length x) _ _ _) (c .before .before .before .numbers-verdict .ensures) g) ∙ g in
-    (refused v _ _ e, (kept v _ _ _ e, (kept v _ _ _ e, kept v _ _ _ e)))
+    refused _ sheet-built.Refused _ _ _
+    (sym (stops _ _ (numbersTests x (a .ys .now) (a .method) (a .left) (a .right)) (roomTests (length x) _ _ _) (c .before .before .before .numbers-verdict .ensures) g) ∙ g)
 
 returns-4 : tie.Need-returns-4
 returns-4 c =
     let a = c .before .before .before .before .before .before .before .before .before .before .before .before .before .before .before .before .before .before .before .before .before .before .before .before .args in
     let x = a .xs .now in
     let y = a .ys .now in
-    let v = sheetVerdict x y (a .method) (a .left) (a .right) (a .place) (a .nodes .now) (a .tags .now) (a .slots .now) in
-    let w = partVerdict (a .place) x y (a .nodes .now) (a .tags .now) (a .slots .now) in
+    let b = buffers (a .nodes .now) (a .tags .now) (a .slots .now) in
     let h = sym (c .before .before .before .before .before .before .before .before .before .before .before .before .before .before .before .before .before .before .numbers-verdict .ensures) ∙ c .before .before .before .before .before .before .before .before .before .before .before .before .before .before .before .before .enum-told .given .1 in
-    let e : v ≡ w = sized x y (a .method) (a .left) (a .right) (a .place) (length (a .nodes .now)) (length (a .tags .now)) (length (a .slots .now)) h in
-    let m = c .before .before .before .before .before .before .before .before .before .make-from .ensures in (
-      refused v _ _ (e ∙ was-refused w _ _ _ (m .0) (c .before .refusal2 .given .1)),
-      (same-left v w _ _ _ e (m .1 .0), (same-left v w _ _ _ e (m .1 .1 .0), same-left v w _ _ _ e (m .1 .1 .1))),
-    )
+    let e = sized x y (a .method) (a .left) (a .right) (a .place) (length (b .nodes)) (length (b .tags)) (length (b .slots)) h in
+    let (was, unchanged) = was-refused (a .place) x y _ _ b _ (c .before .before .before .before .before .before .before .before .before .make-from .ensures) _ (c .before .refusal2 .given .1) in
+    not-built (a .place) x y _ (a .right) _ b _ _ (e ∙ was) unchanged
 
 returns-5 : tie.Need-returns-5
 returns-5 c =
     let a = c .before .before .before .before .before .before .before .before .before .before .before .before .before .before .before .before .before .before .before .before .before .before .before .before .before .args in
     let x = a .xs .now in
     let y = a .ys .now in
-    let v = sheetVerdict x y (a .method) (a .left) (a .right) (a .place) (a .nodes .now) (a .tags .now) (a .slots .now) in
-    let w = partVerdict (a .place) x y (a .nodes .now) (a .tags .now) (a .slots .now) in
+    let b = buffers (a .nodes .now) (a .tags .now) (a .slots .now) in
     let h = sym (c .before .before .before .before .before .before .before .before .before .before .before .before .before .before .before .before .before .before .before .numbers-verdict .ensures) ∙ c .before .before .before .before .before .before .before .before .before .before .before .before .before .before .before .before .before .enum-told .given .1 in
-    let e : v ≡ w = sized x y (a .method) (a .left) (a .right) (a .place) (length (a .nodes .now)) (length (a .tags .now)) (length (a .slots .now)) h in
-    let m = c .before .before .before .before .before .before .before .before .before .before .make-from .ensures in
-    let g = c .before .before .tail .given .1 in (
-      drawn-of v _ _ (e ∙ was-made w _ _ _ (m .0) g) (c .end-of .ensures ∙ ap (λ (t : Tail). endOf (a .right) t) (tail-made w _ _ _ (m .0) g)),
-      (same-left v w _ _ _ e (m .1 .0), (same-left v w _ _ _ e (m .1 .1 .0), same-left v w _ _ _ e (m .1 .1 .1))),
-    )
+    let e = sized x y (a .method) (a .left) (a .right) (a .place) (length (b .nodes)) (length (b .tags)) (length (b .slots)) h in
+    let (accepted, tail, filled) = was-made (a .place) x y _ _ b _ (c .before .before .before .before .before .before .before .before .before .before .make-from .ensures) _ (c .before .before .tail .given .1) in
+    is-built (a .place) x y _ (a .right) _ b _ _ _ (e ∙ accepted) (c .end-of .ensures) tail filled
 
 pub sheet-spec : {M : Type 1} → statement M
 sheet-spec =

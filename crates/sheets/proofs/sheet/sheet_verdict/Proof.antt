@@ -2,6 +2,7 @@
 use Prim.Native.Nat.{_-_, _*_}
 use borrow.Author.Needs.{needs}
 use lib.ListN.{length}
+use Rattle.numbers.specs.Sizes.{slotCount}
 use Rattle.refusal.proofs.First.{stops, goes-on}
 use Rattle.table.specs.Check.{roomTests}
 use Rattle.sheets.specs.Sheet.{numbersTests}
@@ -12,14 +13,14 @@ returns : tie.Need-returns
 returns c =
     let a = c .before .before .before .before .before .args in
     let t = numbersTests (a .xs .now) (a .ys .now) (a .method) (a .left) (a .right) in
-    stops _ _ t (roomTests (length (a .xs .now)) (a .nodes - a .place) (a .tags - a .place) (a .slots - 24 * a .place)) (c .before .before .numbers-verdict .ensures) (c .enum-told .given .1)
+    stops _ _ t (roomTests (length (a .xs .now)) (a .nodes - a .place) (a .tags - a .place) (a .slots - slotCount * a .place)) (c .before .before .numbers-verdict .ensures) (c .enum-told .given .1)
 
 returns-2 : tie.Need-returns-2
 returns-2 c =
     let e = c .before .before .before .before in
     let a = e .before .before .before .before .before .args in
     let t = numbersTests (a .xs .now) (a .ys .now) (a .method) (a .left) (a .right) in
-    goes-on _ _ t (roomTests (length (a .xs .now)) (a .nodes - a .place) (a .tags - a .place) (a .slots - 24 * a .place)) (e .before .before .numbers-verdict .ensures) (e .enum-told2 .given .1)
+    goes-on _ _ t (roomTests (length (a .xs .now)) (a .nodes - a .place) (a .tags - a .place) (a .slots - slotCount * a .place)) (e .before .before .numbers-verdict .ensures) (e .enum-told2 .given .1)
     (rw (c .before .before .before .entries-from .ensures, c .before .before .entries-from2 .ensures, c .before .slots-from .ensures) at (c .room-verdict .ensures))
 
 pub sheet-verdict-spec : {M : Type 1} → statement M

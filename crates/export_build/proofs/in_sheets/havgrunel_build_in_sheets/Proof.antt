@@ -1,0 +1,53 @@
+-- `havgrunel_build_in_sheets` meets its contract: with no room for its answers it asks for the refusal alone, and with room it tells what the library built.
+use mathlib.Core.Bool.{false}
+use mathlib.Core.Path.{_≡_, sym, ap, _∙_}
+use borrow.Author.Needs.{needs}
+use lib.ListN.{length}
+use Rattle.table.specs.Buffers.{buffers}
+use Rattle.table.specs.Method.{new}
+use Rattle.table.specs.declared.method.ConvexMonotone.{ConvexMonotone}
+use Rattle.sheets.specs.InSheets.{inSheetsOutcome}
+use Rattle.export_build.specs.Building.{noAnswer, shortRefusal}
+use Rattle.export_build.proofs.Across.{roomy, curve-short, curve-roomy, sheets-last}
+use Rattle.export_build.proofs.in_sheets.havgrunel_build_in_sheets.Statement.{statement}
+use Rattle.export_build.proofs.in_sheets.havgrunel_build_in_sheets.Tie as tie
+
+returns : tie.Need-returns
+returns c =
+    let n = c .before .before in
+    let w = n .before in
+    let a = w .before .before .before .before .before .before .before .before .before .args in
+    let b = buffers (a .nodes .now) (a .tags .now) (a .slots .now) in
+    curve-short b (a .sections .now) (a .tail .now) (inSheetsOutcome (a .knots .now) (a .averages .now) (new (a .quadraticity) (a .monotonicity) (a .positive)) (a .cuts .now) b) _ (sym (n .no-answer .ensures) ∙ c .before .if1 .taken)
+    (sheets-last (a .knots .now) (a .averages .now) (w .new .result) (a .cuts .now) b _ (c .cut-refusal .ensures)
+    ∙ ap (λ (m : ConvexMonotone). shortRefusal (inSheetsOutcome (a .knots .now) (a .averages .now) m (a .cuts .now) b .answer)) (w .new .ensures))
+
+-- past the test for room
+roomy-here : (c : tie.Else1) → let a = c .before .before .before .before .before .before .before .before .before .before .before .args in
+    noAnswer (length (a .sections .now)) (length (a .tail .now)) ≡ false
+roomy-here c = sym (c .before .no-answer .ensures) ∙ c .if1 .left
+
+tell-requires : tie.Need-tell-requires
+tell-requires c κs = roomy _ _ (roomy-here (c .before .before .before .before .before .before .before .before .before .before .before .before))
+
+returns-2 : tie.Need-returns-2
+returns-2 c =
+    let t = c .before .before .before .before in
+    let b = t .before .before .before .before .before .before .before .before .before in
+    let e = b .before .before .before .before in
+    let w = e .before .before in
+    let a = w .before .before .before .before .before .before .before .before .before .args in
+    let lent = buffers (a .nodes .now) (a .tags .now) (a .slots .now) in
+    curve-roomy lent (a .sections .now) (a .tail .now) _ _ _ _ _ (roomy-here e)
+    (b .build-in-sheets .ensures ∙ ap (λ (m : ConvexMonotone). inSheetsOutcome (a .knots .now) (a .averages .now) m (a .cuts .now) lent) (w .new .ensures)) (t .tell .ensures)
+
+pub havgrunel-build-in-sheets-spec : {M : Type 1} → statement M
+havgrunel-build-in-sheets-spec =
+    tie.close
+    (tie.spec
+    (λ c κs. search needs) (λ c κs. search needs) (λ c κs. search needs)
+    returns
+    (λ c κs. search needs)
+    tell-requires
+    (λ c. search needs) (λ c. search needs) (λ c. search needs) (λ c. search needs) (λ c. search needs)
+    returns-2)

@@ -1,0 +1,71 @@
+// A table built in sheets.
+use crate::building::last_refusal;
+use crate::building::no_answer;
+use crate::building::tell;
+use curve::build::build_verdict;
+use refusal::Refusal;
+use sheets::pieces::build_in_sheets;
+use sheets::pieces::cuts_fit;
+use table::ends::Seam;
+use table::method::ConvexMonotone;
+ghost use mathlib.Core.Path.{_≡_};
+ghost use lib.ListN.{length};
+ghost use Rattle.refusal.specs.Refusal.{first};
+ghost use Rattle.table.specs.Buffers.{buffers};
+ghost use Rattle.table.specs.Method.{new};
+ghost use Rattle.curve.specs.Build.{buildTests};
+ghost use Rattle.sheets.specs.InSheets.{cutsFit, inSheetsOutcome};
+ghost use Rattle.export_build.specs.Building.{across, curveAcross};
+ghost use Rattle.export_build.specs.InSheets.{lastCut};
+
+// The first refusal of a table in sheets for buffers of these lengths, where its answers have no room.
+fn cut_refusal(
+    knots: &[f64],
+    averages: &[f64],
+    method: ConvexMonotone,
+    cuts: &[usize],
+    nodes: usize,
+    tags: usize,
+    slots: usize,
+) -> u8
+    ensures { λ r. ⌜ r ≡ lastCut (cutsFit (now (cuts .entry)) (length (now (knots .entry)))) (first (buildTests (now (knots .entry)) (now (averages .entry)) method Seam.Absent nodes tags slots)) ⌝ }
+{
+    if !cuts_fit(cuts, knots.len()) {
+        return Refusal::CutsNotInner.number();
+    }
+    last_refusal(build_verdict(knots, averages, method, Seam::Absent, nodes, tags, slots))
+}
+
+// Builds the curve of a table in sheets that end at the cuts, which are inner knots in rising order, counted from 0. All that is told and written is
+// as for `havgrunel_build` with no held period and no seam.
+#[no_mangle]
+pub extern "C" fn havgrunel_build_in_sheets(
+    knots: &[f64],
+    averages: &[f64],
+    quadraticity: f64,
+    monotonicity: f64,
+    positive: bool,
+    cuts: &[usize],
+    nodes: &mut [f64],
+    tags: &mut [u16],
+    slots: &mut [f64],
+    sections: &mut [usize],
+    tail: &mut [f64],
+) -> u8
+    ensures { λ r. ⌜ across r (now (nodes .exit)) (now (tags .exit)) (now (slots .exit)) (now (sections .exit)) (now (tail .exit)) ≡ curveAcross (buffers (now (nodes .entry)) (now (tags .entry)) (now (slots .entry))) (now (sections .entry)) (now (tail .entry)) (inSheetsOutcome (now (knots .entry)) (now (averages .entry)) (new quadraticity monotonicity positive) (now (cuts .entry)) (buffers (now (nodes .entry)) (now (tags .entry)) (now (slots .entry)))) ⌝ }
+{
+    let method = ConvexMonotone::new(quadraticity, monotonicity, positive);
+    if no_answer(sections.len(), tail.len()) {
+        return cut_refusal(
+            knots,
+            averages,
+            method,
+            cuts,
+            nodes.len(),
+            tags.len(),
+            slots.len(),
+        );
+    }
+    let built = build_in_sheets(knots, averages, method, cuts, nodes, tags, slots);
+    tell(built, sections, tail)
+}
