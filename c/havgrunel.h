@@ -28,23 +28,23 @@ extern "C" {
 /* The refusals. A call that could be refused for several reasons tells the first in its own order, which is said at each function. */
 enum havgrunel_refusal {
     HAVGRUNEL_ACCEPTED = 0,
-    HAVGRUNEL_LENGTHS_DIFFER = 1,       /* as many knots as averages are needed */
-    HAVGRUNEL_MONOTONICITY_OUTSIDE = 2, /* not in [0, 1], or a NaN */
-    HAVGRUNEL_QUADRATICITY_OUTSIDE = 3, /* not in [0, 1], or a NaN */
-    HAVGRUNEL_TOO_FEW_POINTS = 4,       /* fewer than 2 */
-    HAVGRUNEL_KNOT_NOT_FINITE = 5,
-    HAVGRUNEL_AVERAGE_NOT_FINITE = 6,
-    HAVGRUNEL_KNOTS_NOT_RISING = 7,     /* a knot is not above the one before */
-    HAVGRUNEL_SEAM_TOO_LONG = 8,        /* the seam's count leaves no period behind it */
-    HAVGRUNEL_NO_PREVIOUS_CURVE = 9,    /* growth past the first window from no curve, or one of no sections */
-    HAVGRUNEL_TOO_MANY_POINTS = 10,     /* more than HAVGRUNEL_MOST_POINTS */
-    HAVGRUNEL_BUFFER_TOO_SHORT = 11,
-    HAVGRUNEL_QUERY_NOT_A_NUMBER = 12,
-    HAVGRUNEL_QUERY_OUTSIDE = 13,       /* outside the knots, extrapolation off */
-    HAVGRUNEL_DERIVATIVE_ASKED = 14,
-    HAVGRUNEL_RECORD_NOT_LEGAL = 15,    /* a record's tag is none that there is, or the record is not there */
-    HAVGRUNEL_NO_GIVEN_NODE = 16,       /* a sheet has a given node at one end at least */
-    HAVGRUNEL_CUTS_NOT_INNER = 28       /* a cut is not an inner knot, or not above the one before */
+    HAVGRUNEL_LENGTHS_DIFFER = 1,       /* there are not as many averages as knots */
+    HAVGRUNEL_MONOTONICITY_OUTSIDE = 2, /* the monotonicity is not a number from 0 to 1 */
+    HAVGRUNEL_QUADRATICITY_OUTSIDE = 3, /* the quadraticity is not a number from 0 to 1 */
+    HAVGRUNEL_TOO_FEW_POINTS = 4,       /* there are fewer than two knots */
+    HAVGRUNEL_KNOT_NOT_FINITE = 5,      /* a knot is infinite or not a number */
+    HAVGRUNEL_AVERAGE_NOT_FINITE = 6,   /* an average is infinite or not a number */
+    HAVGRUNEL_KNOTS_NOT_RISING = 7,     /* a knot is not above the one before it */
+    HAVGRUNEL_SEAM_TOO_LONG = 8,        /* the seam leaves no period to build */
+    HAVGRUNEL_NO_PREVIOUS_CURVE = 9,    /* past the first window a curve grows from a previous one, and there is none or it has no section */
+    HAVGRUNEL_TOO_MANY_POINTS = 10,     /* there are more than 4096 knots */
+    HAVGRUNEL_BUFFER_TOO_SHORT = 11,    /* a buffer is too short for what is to be written or read */
+    HAVGRUNEL_QUERY_NOT_A_NUMBER = 12,  /* the point that is asked for is not a number */
+    HAVGRUNEL_QUERY_OUTSIDE = 13,       /* the point that is asked for lies outside the knots, and extrapolation is off */
+    HAVGRUNEL_DERIVATIVE_ASKED = 14,    /* the method has no derivative */
+    HAVGRUNEL_RECORD_NOT_LEGAL = 15,    /* a record's tag is not legal, or the record is not there */
+    HAVGRUNEL_NO_GIVEN_NODE = 16,       /* a sheet needs a given node at one end at least, and this one has none */
+    HAVGRUNEL_CUTS_NOT_INNER = 28       /* a cut is not an inner knot of the table, or not above the cut before it */
 };
 
 /* A curve of n points takes n nodes, n - 1 tags and HAVGRUNEL_SLOTS slots for each tag. */
