@@ -7,12 +7,13 @@
  *
  * A slice is passed as a pointer and, right behind it, the count of its entries. Where the count is 0 the pointer is not used and may be null.
  * Otherwise it points to that many entries. Two slices of one call must not overlap unless both are const. A function keeps no pointer, allocates
- * nothing, has no state and calls nothing but the C library's memcpy, so calls from several threads don't meet unless they share a buffer.
+ * nothing, has no state and calls no function from outside the archive, neither of the C library nor of another, so calls from several threads don't meet
+ * unless they share a buffer.
  *
  * A NaN is a NaN here, whatever its sign and payload: any may come back. All other numbers are the same on every machine, bit for bit.
  *
- * What each function answers, entry by entry, is a proved equation in the crates named export. Two things are taken on trust: the step from checked code
- * to machine code, and that callers keep to the lines above, which no proof on this side can see.
+ * What each function answers, entry by entry, is a proved equation in the four crates whose names begin with export_. Two things are taken on trust: the
+ * step from checked code to machine code, and that callers keep to the lines above, which no proof on this side can see.
  */
 #ifndef HAVGRUNEL_H
 #define HAVGRUNEL_H
@@ -64,8 +65,8 @@ bool havgrunel_default_positivity(void);
  * checked for finiteness and otherwise not read.
  *
  * `hold` asks for a constant last period. With `seamed`, the node at `seam_count` is `seam_node`; without it the two are not read. Written are
- * the nodes, the tags and slots of the sections, the count of sections into sections[0], and into tail[0], tail[1], tail[2] the record that answers
- * from the last knot on: its value, its total and where it starts.
+ * the nodes, the tags and slots of the sections, the count of sections into sections[0], and into tail[0], tail[1], tail[2] the curve's tail, the three
+ * numbers that answer from the last knot on: its value, the total where it starts, and where it starts.
  *
  * Refused in the order 1 to 8, 10, 11; a `sections` or `tail` that is too short is an 11 as well.
  */
@@ -118,8 +119,8 @@ double havgrunel_inner_node(double before, double here, double after, double ave
  * Where the table was cut, `left_given` or `right_given` is true and the node there is `left_node` or `right_node`, taken as it is; where it is false
  * the node is not read. `start` is the total before the sheet, and `place` the number of its first knot in the whole, counted from 0. The nodes go to
  * nodes[place] and on, the tags to tags[place] and on, the slots to slots[HAVGRUNEL_SLOTS * place] and on: two sheets that meet at a cut write the
- * same node there. answer[0] is the total after the sheet, where the next one starts; answer[1], answer[2], answer[3] are the record that answers from
- * the last knot on (value, total, from), or three +0.0 where a right node is given.
+ * same node there. answer[0] is the total after the sheet, where the next one starts; answer[1], answer[2], answer[3] are the curve's tail (value, total,
+ * from), or three +0.0 where a right node is given.
  *
  * Sheets that are given the whole's nodes and totals leave the buffers that a build of the whole leaves, in whatever order they are built. A build's
  * total before knot i is a sum from the left, from +0.0 on, of each average times the length of its period.
@@ -156,7 +157,7 @@ uint8_t havgrunel_build_in_sheets(
     double *tail, size_t tail_count);
 
 /*
- * The price at x, or the total of all prices up to x, into answer[0]. Knots, tags, slots and the three numbers of the record are those of a curve
+ * The price at x, or the total of all prices up to x, into answer[0]. Knots, tags, slots and the three numbers of the tail are those of a curve
  * that was built; `extrapolate` allows an x outside the knots.
  *
  * Refused in the order 4, 5, 7, 10, 11, 12, 13, 15; an `answer` with no entry is an 11 that comes after all of these.
