@@ -7,12 +7,13 @@
  *
  * A slice is passed as a pointer and, right behind it, the count of its entries. Where the count is 0 the pointer is not used and may be null.
  * Otherwise it points to that many entries. Two slices of one call must not overlap unless both are const. A function keeps no pointer, allocates
- * nothing, has no state and calls nothing but the C library's memcpy, so calls from several threads don't meet unless they share a buffer.
+ * nothing, has no state and calls no function from outside the archive, neither of the C library nor of another, so calls from several threads don't meet
+ * unless they share a buffer.
  *
  * A NaN is a NaN here, whatever its sign and payload: any may come back. All other numbers are the same on every machine, bit for bit.
  *
- * What each function answers, entry by entry, is a proved equation in the crates named export. Two things are taken on trust: the step from checked code
- * to machine code, and that callers keep to the lines above, which no proof on this side can see.
+ * What each function answers, entry by entry, is a proved equation in the four crates whose names begin with export_. Two things are taken on trust: the
+ * step from checked code to machine code, and that callers keep to the lines above, which no proof on this side can see.
  */
 #ifndef HAVGRUNEL_H
 #define HAVGRUNEL_H
@@ -28,23 +29,23 @@ extern "C" {
 /* The refusals. A call that could be refused for several reasons tells the first in its own order, which is said at each function. */
 enum havgrunel_refusal {
     HAVGRUNEL_ACCEPTED = 0,
-    HAVGRUNEL_LENGTHS_DIFFER = 1,       /* as many knots as averages are needed */
-    HAVGRUNEL_MONOTONICITY_OUTSIDE = 2, /* not in [0, 1], or a NaN */
-    HAVGRUNEL_QUADRATICITY_OUTSIDE = 3, /* not in [0, 1], or a NaN */
-    HAVGRUNEL_TOO_FEW_POINTS = 4,       /* fewer than 2 */
-    HAVGRUNEL_KNOT_NOT_FINITE = 5,
-    HAVGRUNEL_AVERAGE_NOT_FINITE = 6,
-    HAVGRUNEL_KNOTS_NOT_RISING = 7,     /* a knot is not above the one before */
-    HAVGRUNEL_SEAM_TOO_LONG = 8,        /* the seam's count leaves no period behind it */
-    HAVGRUNEL_NO_PREVIOUS_CURVE = 9,    /* growth past the first window from no curve, or one of no sections */
-    HAVGRUNEL_TOO_MANY_POINTS = 10,     /* more than HAVGRUNEL_MOST_POINTS */
-    HAVGRUNEL_BUFFER_TOO_SHORT = 11,
-    HAVGRUNEL_QUERY_NOT_A_NUMBER = 12,
-    HAVGRUNEL_QUERY_OUTSIDE = 13,       /* outside the knots, extrapolation off */
-    HAVGRUNEL_DERIVATIVE_ASKED = 14,
-    HAVGRUNEL_RECORD_NOT_LEGAL = 15,    /* a record's tag is none that there is, or the record is not there */
-    HAVGRUNEL_NO_GIVEN_NODE = 16,       /* a sheet has a given node at one end at least */
-    HAVGRUNEL_CUTS_NOT_INNER = 28       /* a cut is not an inner knot, or not above the one before */
+    HAVGRUNEL_LENGTHS_DIFFER = 1,       /* there are not as many averages as knots */
+    HAVGRUNEL_MONOTONICITY_OUTSIDE = 2, /* the monotonicity is not a number from 0 to 1 */
+    HAVGRUNEL_QUADRATICITY_OUTSIDE = 3, /* the quadraticity is not a number from 0 to 1 */
+    HAVGRUNEL_TOO_FEW_POINTS = 4,       /* there are fewer than two knots */
+    HAVGRUNEL_KNOT_NOT_FINITE = 5,      /* a knot is infinite or not a number */
+    HAVGRUNEL_AVERAGE_NOT_FINITE = 6,   /* an average is infinite or not a number */
+    HAVGRUNEL_KNOTS_NOT_RISING = 7,     /* a knot is not above the one before it */
+    HAVGRUNEL_SEAM_TOO_LONG = 8,        /* the seam leaves no period to build */
+    HAVGRUNEL_NO_PREVIOUS_CURVE = 9,    /* past the first window a curve grows from a previous one, and there is none or it has no section */
+    HAVGRUNEL_TOO_MANY_POINTS = 10,     /* there are more than 4096 knots */
+    HAVGRUNEL_BUFFER_TOO_SHORT = 11,    /* a buffer is too short for what is to be written or read */
+    HAVGRUNEL_QUERY_NOT_A_NUMBER = 12,  /* the point that is asked for is not a number */
+    HAVGRUNEL_QUERY_OUTSIDE = 13,       /* the point that is asked for lies outside the knots, and extrapolation is off */
+    HAVGRUNEL_DERIVATIVE_ASKED = 14,    /* the method has no derivative */
+    HAVGRUNEL_RECORD_NOT_LEGAL = 15,    /* a record's tag is not legal, or the record is not there */
+    HAVGRUNEL_NO_GIVEN_NODE = 16,       /* a sheet needs a given node at one end at least, and this one has none */
+    HAVGRUNEL_CUTS_NOT_INNER = 28       /* a cut is not an inner knot of the table, or not above the cut before it */
 };
 
 /* A curve of n points takes n nodes, n - 1 tags and HAVGRUNEL_SLOTS slots for each tag. */
@@ -64,8 +65,8 @@ bool havgrunel_default_positivity(void);
  * checked for finiteness and otherwise not read.
  *
  * `hold` asks for a constant last period. With `seamed`, the node at `seam_count` is `seam_node`; without it the two are not read. Written are
- * the nodes, the tags and slots of the sections, the count of sections into sections[0], and into tail[0], tail[1], tail[2] the record that answers
- * from the last knot on: its value, its total and where it starts.
+ * the nodes, the tags and slots of the sections, the count of sections into sections[0], and into tail[0], tail[1], tail[2] the curve's tail, the three
+ * numbers that answer from the last knot on: its value, the total where it starts, and where it starts.
  *
  * Refused in the order 1 to 8, 10, 11; a `sections` or `tail` that is too short is an 11 as well.
  */
@@ -118,8 +119,8 @@ double havgrunel_inner_node(double before, double here, double after, double ave
  * Where the table was cut, `left_given` or `right_given` is true and the node there is `left_node` or `right_node`, taken as it is; where it is false
  * the node is not read. `start` is the total before the sheet, and `place` the number of its first knot in the whole, counted from 0. The nodes go to
  * nodes[place] and on, the tags to tags[place] and on, the slots to slots[HAVGRUNEL_SLOTS * place] and on: two sheets that meet at a cut write the
- * same node there. answer[0] is the total after the sheet, where the next one starts; answer[1], answer[2], answer[3] are the record that answers from
- * the last knot on (value, total, from), or three +0.0 where a right node is given.
+ * same node there. answer[0] is the total after the sheet, where the next one starts; answer[1], answer[2], answer[3] are the curve's tail (value, total,
+ * from), or three +0.0 where a right node is given.
  *
  * Sheets that are given the whole's nodes and totals leave the buffers that a build of the whole leaves, in whatever order they are built. A build's
  * total before knot i is a sum from the left, from +0.0 on, of each average times the length of its period.
@@ -156,7 +157,7 @@ uint8_t havgrunel_build_in_sheets(
     double *tail, size_t tail_count);
 
 /*
- * The price at x, or the total of all prices up to x, into answer[0]. Knots, tags, slots and the three numbers of the record are those of a curve
+ * The price at x, or the total of all prices up to x, into answer[0]. Knots, tags, slots and the three numbers of the tail are those of a curve
  * that was built; `extrapolate` allows an x outside the knots.
  *
  * Refused in the order 4, 5, 7, 10, 11, 12, 13, 15; an `answer` with no entry is an 11 that comes after all of these.

@@ -15,11 +15,11 @@ module _ («f_prev» «f_next» : Float) where
       let «c_av» = four ⊗ («f_prev» ⊗ «f_prev» ⊕ «f_prev» ⊗ «f_next» ⊕ «f_next» ⊗ «f_next») in
       «b_av» ⊗ «b_av» ⊖ four ⊗ thirtySix ⊗ «c_av»
 
-  -- the average at which a parabola with these ends just touches zero
+  -- the lower of the two averages at which a parabola with these ends touches zero
   abbrev pub «av_root» : Float
   «av_root» = (neg «b_av» ⊖ root «d_av») ⊘ (two ⊗ thirtySix)
 
-  -- whether one with this average falls below zero
+  -- whether the parabola with this average has two zeros, in the period or outside it, and whether one with these ends can touch zero
   unfoldable pub splits : Float → Bool
   splits «f_average» =
       let a = «a_of» «f_prev» «f_next» «f_average» in
@@ -44,7 +44,7 @@ module _ («x_prev» «x_next» «f_prev» «f_next» «f_average» «prev_primi
     «x_ratio» = one;
   }
 
-  -- the parabola that touches zero at x_root, squeezed by x_ratio
+  -- the parabola that touches zero at x_root, its length scaled by x_ratio
   unfoldable pub split : Float → QuadraticMin
   split «av_root» =
       let «x_ratio» = «f_average» ⊘ «av_root» in

@@ -1,4 +1,5 @@
-// The parabola kept from falling below zero: where it would, it is squeezed towards the ends, with zero between x2 and x3.
+// The parabola that positivity may split. Where both tests of `splits` pass, the section is two arms of a parabola that touches zero, with zero
+// between x2 and x3. Elsewhere it is the plain parabola.
 use crate::parabola::a_of;
 use crate::parabola::b_of;
 use crate::parabola::under;
@@ -37,14 +38,15 @@ fn d_av(f_prev: f64, f_next: f64) -> f64
     b * b - 4.0 * 36.0 * c_av
 }
 
-// The average at which a parabola with these ends just touches zero.
+// The lower of the two averages at which a parabola with these ends touches zero.
 fn av_root(f_prev: f64, f_next: f64) -> f64
     ensures { λ r. ⌜ r ≡ «av_root» «f_prev» «f_next» ⌝ }
 {
     (-b_av(f_prev, f_next) - root::sqrt(d_av(f_prev, f_next))) / (2.0 * 36.0)
 }
 
-// The split rule: whether a parabola with these ends and this average falls below zero.
+// The split rule: whether the parabola with these ends and this average has two zeros, in the period or outside it, and whether one with these ends
+// can touch zero. It does not ask where the zeros lie: ends 4 and 1 with average 3 split, although that parabola never goes below 1.
 fn splits(f_prev: f64, f_next: f64, f_average: f64) -> bool
     ensures { λ r. ⌜ r ≡ splits «f_prev» «f_next» «f_average» ⌝ }
 {
@@ -109,7 +111,7 @@ impl QuadraticMin {
         }
     }
 
-    // The parabola with the average av_root, which touches zero at x_root, squeezed by x_ratio.
+    // The parabola with the average av_root, which touches zero at x_root, its length scaled by x_ratio.
     fn split(
         x_prev: f64,
         x_next: f64,

@@ -205,7 +205,7 @@ impl ConvexMonotoneInterpolation {
         (0..self.sections()).map(|number| self.record(number).expect("each section has a record"))
     }
 
-    /// What answers from the last knot on.
+    /// The tail, which answers from the last knot on.
     pub fn tail(&self) -> Tail {
         self.curve.tail
     }

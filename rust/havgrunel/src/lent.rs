@@ -16,7 +16,7 @@ pub struct Buffers<'a> {
     pub slots: &'a mut [f64],
 }
 
-/// The record that answers from the last knot on.
+/// The tail of a curve: the three numbers that answer from the last knot on.
 #[derive(Clone, Copy, Debug, PartialEq)]
 pub struct Tail {
     /// The price.
@@ -36,7 +36,7 @@ pub struct Curve {
     pub held: bool,
     /// Whether places outside the knots are allowed; off in a new curve.
     pub extrapolates: bool,
-    /// What answers from the last knot on.
+    /// Its tail, which answers from the last knot on.
     pub tail: Tail,
 }
 
@@ -80,7 +80,7 @@ pub struct Sheet {
 pub struct SheetEnd {
     /// The total after it, where the next sheet starts.
     pub total: f64,
-    /// What answers from the last knot on; none where another sheet goes on from there.
+    /// The curve's tail; none where another sheet goes on from there.
     pub tail: Option<Tail>,
 }
 

@@ -50,11 +50,11 @@ impl Record {
         convex_monotone3(x_prev, x_next, g_prev, g_next, f_average, eta3, prev_primitive);
         /// Two parabolas that meet.
         convex_monotone4(x_prev, x_next, g_prev, g_next, f_average, eta4, prev_primitive);
-        /// The same, split where it would fall below zero.
+        /// The same, split where the two would meet at zero or below.
         convex_monotone4_min(x_prev, x_next, g_prev, g_next, f_average, eta4, prev_primitive);
         /// The parabola through two nodes with the average.
         quadratic(x_prev, x_next, f_prev, f_next, f_average, prev_primitive);
-        /// The same, shortened and split where it would fall below zero.
+        /// The same, split where both tests of the method's rule pass, which is so for some that stay above zero, too.
         quadratic_min(x_prev, x_next, f_prev, f_next, f_average, prev_primitive);
     }
 

@@ -37,19 +37,19 @@ refusals! {
     LengthsDiffer = 1, "there are not as many averages as knots";
     MonotonicityOutside = 2, "the monotonicity is not a number from 0 to 1";
     QuadraticityOutside = 3, "the quadraticity is not a number from 0 to 1";
-    TooFewPoints = 4, "there are fewer than two points";
+    TooFewPoints = 4, "there are fewer than two knots";
     KnotNotFinite = 5, "a knot is infinite or not a number";
     AverageNotFinite = 6, "an average is infinite or not a number";
     KnotsNotRising = 7, "a knot is not above the one before it";
-    SeamTooLong = 8, "more sections are kept than leave a period to build";
-    NoPreviousCurve = 9, "past the first window a curve grows from a previous one, and there is none";
-    TooManyPoints = 10, "there are more than 4096 points";
+    SeamTooLong = 8, "the seam leaves no period to build";
+    NoPreviousCurve = 9, "past the first window a curve grows from a previous one, and there is none or it has no section";
+    TooManyPoints = 10, "there are more than 4096 knots";
     BufferTooShort = 11, "a buffer is too short for what is to be written or read";
-    QueryNotANumber = 12, "the place that is asked for is not a number";
-    QueryOutside = 13, "the place that is asked for lies outside the knots, and extrapolation is off";
+    QueryNotANumber = 12, "the point that is asked for is not a number";
+    QueryOutside = 13, "the point that is asked for lies outside the knots, and extrapolation is off";
     DerivativeAsked = 14, "the method has no derivative";
-    RecordNotLegal = 15, "a section's record is none that the method makes, or there is no such section";
-    NoGivenNode = 16, "a sheet is given a node at one of its ends at least, and this one has none";
+    RecordNotLegal = 15, "a record's tag is not legal, or the record is not there";
+    NoGivenNode = 16, "a sheet needs a given node at one end at least, and this one has none";
     CutsNotInner = 28, "a cut is not an inner knot of the table, or not above the cut before it";
 }
 

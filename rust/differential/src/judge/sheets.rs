@@ -1,7 +1,6 @@
 //! Tables that are cut into sheets, against the original's build of the whole.
 //!
-//! The original has no sheets. What it says of the whole is due of every part: nodes, totals, sections, and the record beyond the last
-//! knot. Whether a part is refused for its numbers it says of that part built by itself.
+//! The original has no sheets. What it says of the whole is due of every part: nodes, totals, sections, and the tail. Whether a part is refused for its numbers it says of that part built by itself.
 
 use havgrunel::lent::Sheet;
 use havgrunel::{MOST_POINTS, ffi};
@@ -14,7 +13,7 @@ use crate::lent::{Lent, marked, old};
 /// The document's number for a sheet with no given node.
 const NO_GIVEN_NODE: u8 = 16;
 
-/// What a sheet answers: the total after it and the record.
+/// What a sheet answers: the total after it and the three numbers of the tail.
 const ANSWER: usize = 4;
 
 /// The original's whole.
