@@ -1,4 +1,4 @@
--- What sizes that are accepted tell, and what an answer tells of the verdict on them.
+-- What accepted sizes mean, and what an answer says of the verdict on them.
 use Prim.Native.Nat.{ℕ, _≤_}
 use mathlib.Core.Bool.{false, not}
 use mathlib.Core.List.{List}
@@ -41,7 +41,7 @@ module _ (n m nodes tags slots : ℕ) where
   pub only-room : not (eqb n m) ≡ false → ltb n 2 ≡ false → first (sizeTests n m nodes tags slots) ≡ first (roomTests n nodes tags slots)
   only-room p q = rw (p, q)
 
--- the verdict that an answer tells, and the tail in it
+-- the verdict that an answer has, and the tail in it
 abbrev isMade : Made → Verdict
 isMade (made.Tail t) = verdict.Accepted
 isMade (made.Refused r) = verdict.Refused r

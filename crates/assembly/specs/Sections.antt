@@ -1,4 +1,4 @@
--- 01, Choosing a section: the section of each period and its record, by place; the record beyond the last knot.
+-- 01, Choosing a section: the section of each period and its record, by place; the tail beyond the last knot.
 use Prim.Native.Nat.{ℕ, _+_, _-_, _/_, _%_}
 use mathlib.Core.Bool.{Bool, cond, _&&_}
 use mathlib.Core.List.{List}
@@ -47,7 +47,7 @@ module _ (x y : List Float) (frame : Frame) where
   abbrev pub slotAt : ℕ → Float
   slotAt k = getD (slotsOf (sectionAt (k / slotCount))) (k % slotCount) nan
 
-  -- a record's value, total and from
+  -- the tail: its value, its total and where it starts
   unfoldable pub tailOf : Tail
   tailOf =
       let i = length x - 2 in

@@ -6,7 +6,7 @@ use Rattle.table.specs.Buffers.{outcome}
 use Rattle.curve.proofs.build.build_verdict.Reads as build-verdict
 use Rattle.curve.proofs.build.build.Reads as build
 use Rattle.curve.proofs.curve.Curve.with_extrapolation.Reads as curve-with-extrapolation
-use Rattle.curve.proofs.curve.Built.told.Reads as built-told
+use Rattle.curve.proofs.curve.Built.in_numbers.Reads as built-in-numbers
 
 pub build-verdict-unique : OneAnswer build-verdict.Post
 build-verdict-unique κ a r₁ r₂ s t p q = p ∙ sym q
@@ -17,5 +17,5 @@ build-unique κ a r₁ r₂ s t p q = p ∙ sym q
 pub curve-with-extrapolation-unique : OneAnswer curve-with-extrapolation.Post
 curve-with-extrapolation-unique κ a r₁ r₂ s t p q = p ∙ sym q
 
-pub built-told-unique : OneAnswer built-told.Post
-built-told-unique κ a r₁ r₂ s t p q = p ∙ sym q
+pub built-in-numbers-unique : OneAnswer built-in-numbers.Post
+built-in-numbers-unique κ a r₁ r₂ s t p q = p ∙ sym q

@@ -1,16 +1,16 @@
--- 01, Refusal numbers; Queries, settings and growth: what a build answers, and how it is told.
+-- 01, Refusal numbers; Queries, settings and growth: what a build answers, also in numbers.
 use mathlib.Core.Bool.{Bool}
 use Rattle.numbers.specs.Words.{zero}
 use Rattle.refusal.specs.Refusal.{number}
 use Rattle.curve.specs.declared.curve.Curve.{Curve}
 use Rattle.curve.specs.declared.curve.Built.{Built}
 use Rattle.curve.specs.declared.curve.Built.the-variants as built
-use Rattle.curve.specs.declared.curve.ToldCurve.{ToldCurve}
+use Rattle.curve.specs.declared.curve.CurveInNumbers.{CurveInNumbers}
 
 abbrev pub withExtrapolation : Curve → Bool → Curve
 withExtrapolation c allow = record { sections = c .sections; held = c .held; extrapolates = allow; tail = c .tail }
 
--- a refusal's number, or 0, with the section count and the record's three numbers
-abbrev pub toldCurve : Built → ToldCurve
-toldCurve (built.Curve c) = record { refusal = 0; sections = c .sections; tail = c .tail }
-toldCurve (built.Refused r) = record { refusal = number r; sections = 0; tail = record { value = zero; total = zero; from = zero } }
+-- a refusal's number, or 0, with the section count and the tail
+abbrev pub curveInNumbers : Built → CurveInNumbers
+curveInNumbers (built.Curve c) = record { refusal = 0; sections = c .sections; tail = c .tail }
+curveInNumbers (built.Refused r) = record { refusal = number r; sections = 0; tail = record { value = zero; total = zero; from = zero } }

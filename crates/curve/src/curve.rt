@@ -2,7 +2,7 @@
 use assembly::sections::Tail;
 use refusal::Refusal;
 ghost use mathlib.Core.Path.{_≡_};
-ghost use Rattle.curve.specs.Curve.{withExtrapolation, toldCurve};
+ghost use Rattle.curve.specs.Curve.{withExtrapolation, curveInNumbers};
 
 pub struct Curve {
     pub sections: usize,
@@ -28,26 +28,26 @@ impl Curve {
 }
 
 // An answer in numbers: the refusal's, or 0, and what a curve has; a refused one has nothing.
-pub struct ToldCurve {
+pub struct CurveInNumbers {
     pub refusal: u8,
     pub sections: usize,
     pub tail: Tail,
 }
 
 impl Built {
-    pub fn told(self) -> ToldCurve
-        ensures { λ r. ⌜ r ≡ toldCurve self ⌝ }
+    pub fn in_numbers(self) -> CurveInNumbers
+        ensures { λ r. ⌜ r ≡ curveInNumbers self ⌝ }
     {
         match self {
             Built::Curve(curve) => {
                 let tail = curve.tail;
-                ToldCurve {
+                CurveInNumbers {
                     refusal: 0,
                     sections: curve.sections,
                     tail,
                 }
             }
-            Built::Refused(refusal) => ToldCurve {
+            Built::Refused(refusal) => CurveInNumbers {
                 refusal: refusal.number(),
                 sections: 0,
                 tail: Tail {

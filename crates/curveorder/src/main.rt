@@ -1,5 +1,5 @@
 // Reads an order from standard input and writes its answer.
-use order::answer::Told;
+use order::answer::OrderAnswer;
 use order::answer::answer;
 ghost use mathlib.Core.Path.{_≡_};
 ghost use Prim.Native.Nat.{_≤_};
@@ -16,8 +16,8 @@ fn main() {
     let mut order = room();
     let n = io::read_full(0, &mut order);
     let mut text = [0u8; 2506];
-    let told = answer(&order[..n], &mut text);
-    let Told::Text(long) = told else {
+    let answered = answer(&order[..n], &mut text);
+    let OrderAnswer::Text(long) = answered else {
         return;
     };
     io::write_all(1, &text[..long]);

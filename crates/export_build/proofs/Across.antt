@@ -18,7 +18,7 @@ use Rattle.table.specs.declared.method.ConvexMonotone.{ConvexMonotone}
 use Rattle.table.specs.declared.ends.Seam.{Seam}
 use Rattle.table.specs.declared.ends.Seam.the-variants as seam
 use Rattle.curve.specs.Build.{buildVerdict, buildOutcome, curveOf}
-use Rattle.curve.specs.Curve.{toldCurve}
+use Rattle.curve.specs.Curve.{curveInNumbers}
 use Rattle.curve.specs.declared.curve.Curve.{Curve}
 use Rattle.curve.specs.declared.curve.Built.{Built}
 use Rattle.curve.specs.declared.curve.Built.the-variants as built
@@ -26,7 +26,7 @@ use Rattle.growth.specs.Growth.{grown}
 use Rattle.growth.specs.declared.growth.Carried.{Carried}
 use Rattle.growth.specs.declared.growth.Carried.the-variants as carried
 use Rattle.sheets.specs.InSheets.{cutsFit, inSheetsOutcome}
-use Rattle.sheets.specs.Sheet.{sheetVerdict, sheetOutcome, toldSheet}
+use Rattle.sheets.specs.Sheet.{sheetVerdict, sheetOutcome, sheetInNumbers}
 use Rattle.sheets.specs.declared.sheet.SheetBuilt.{SheetBuilt}
 use Rattle.sheets.specs.declared.sheet.SheetBuilt.the-variants as sheet-built
 use Rattle.sheets.specs.declared.sheet.SheetEnd.{SheetEnd}
@@ -42,11 +42,11 @@ roomy sections tail h = let (a, b) = or-none (ltb sections 1) (ltb tail 3) h in 
 
 -- a curve's numbers: refused, or written
 pub curve-refused : (b : Built) (r : Refusal) (n : ℕ) (sections : List ℕ) (tail : List Float) → b ≡ built.Refused r → n ≡ number r →
-    (n ≡ toldCurve b .refusal) × ((sections ≡ countLeft b sections) × (tail ≡ tailLeft b tail))
+    (n ≡ curveInNumbers b .refusal) × ((sections ≡ countLeft b sections) × (tail ≡ tailLeft b tail))
 curve-refused b r n sections tail e f = (rw (e, f), (rw e, rw e))
 
 pub curve-written : (b : Built) (c : Curve) (sections : List ℕ) (tail : List Float) → b ≡ built.Curve c →
-    (_≡_ {A = ℕ} 0 (toldCurve b .refusal))
+    (_≡_ {A = ℕ} 0 (curveInNumbers b .refusal))
     × ((set sections 0 (c .sections) ≡ countLeft b sections)
     × (set (set (set tail 0 (c .tail .value)) 1 (c .tail .total)) 2 (c .tail .from) ≡ tailLeft b tail))
 curve-written b c sections tail e = (rw e, (rw e, rw e))
@@ -58,10 +58,10 @@ module _ (b : Buffers) (sections : List ℕ) (tail : List Float) (d : Outcome Bu
   curve-short n h e = rw (h, e)
 
   abbrev told : Outcome Built → CurveAcross
-  told o = record { refusal = toldCurve (o .answer) .refusal; buffers = o .buffers; sections = countLeft (o .answer) sections; tail = tailLeft (o .answer) tail }
+  told o = record { refusal = curveInNumbers (o .answer) .refusal; buffers = o .buffers; sections = countLeft (o .answer) sections; tail = tailLeft (o .answer) tail }
 
   pub curve-roomy : (o : Outcome Built) (n : ℕ) (s : List ℕ) (t : List Float) → noAnswer (length sections) (length tail) ≡ false → o ≡ d →
-      (n ≡ toldCurve (o .answer) .refusal) × ((s ≡ countLeft (o .answer) sections) × (t ≡ tailLeft (o .answer) tail)) →
+      (n ≡ curveInNumbers (o .answer) .refusal) × ((s ≡ countLeft (o .answer) sections) × (t ≡ tailLeft (o .answer) tail)) →
       record { refusal = n; buffers = o .buffers; sections = s; tail = t } ≡ curveAcross b sections tail d
   curve-roomy o n s t h e (p, (q, r)) = rw (p, q, r) (ap told e ∙ rw h)
 
@@ -103,11 +103,11 @@ cuts-taken fit v w n h e f = rw (h, f, e)
 
 -- a sheet's numbers: refused, or written
 pub end-refused : (b : SheetBuilt) (r : Refusal) (n : ℕ) (answer : List Float) → b ≡ sheet-built.Refused r → n ≡ number r →
-    (n ≡ toldSheet b .refusal) × (answer ≡ one-sheet.endLeft b answer)
+    (n ≡ sheetInNumbers b .refusal) × (answer ≡ one-sheet.endLeft b answer)
 end-refused b r n answer e f = (rw (e, f), rw e)
 
 pub end-written : (b : SheetBuilt) (s : SheetEnd) (answer : List Float) → b ≡ sheet-built.Sheet s →
-    (_≡_ {A = ℕ} 0 (toldSheet b .refusal))
+    (_≡_ {A = ℕ} 0 (sheetInNumbers b .refusal))
     × (set (set (set (set answer 0 (s .total)) 1 (s .tail .value)) 2 (s .tail .total)) 3 (s .tail .from) ≡ one-sheet.endLeft b answer)
 end-written b s answer e = (rw e, rw e)
 
@@ -117,10 +117,10 @@ module _ (b : Buffers) (answer : List Float) (d : Outcome SheetBuilt) where
   sheet-short n h e = rw (h, e)
 
   abbrev told-sheet : Outcome SheetBuilt → one-sheet.SheetAcross
-  told-sheet o = record { refusal = toldSheet (o .answer) .refusal; buffers = o .buffers; answer = one-sheet.endLeft (o .answer) answer }
+  told-sheet o = record { refusal = sheetInNumbers (o .answer) .refusal; buffers = o .buffers; answer = one-sheet.endLeft (o .answer) answer }
 
   pub sheet-roomy : (o : Outcome SheetBuilt) (n : ℕ) (l : List Float) → ltb (length answer) 4 ≡ false → o ≡ d →
-      (n ≡ toldSheet (o .answer) .refusal) × (l ≡ one-sheet.endLeft (o .answer) answer) → record { refusal = n; buffers = o .buffers; answer = l } ≡ one-sheet.sheetAcross b answer d
+      (n ≡ sheetInNumbers (o .answer) .refusal) × (l ≡ one-sheet.endLeft (o .answer) answer) → record { refusal = n; buffers = o .buffers; answer = l } ≡ one-sheet.sheetAcross b answer d
   sheet-roomy o n l h e (p, q) = rw (p, q) (ap told-sheet e ∙ rw h)
 
 last-of-sheet : (v : Verdict) (b : Buffers) (new : Outcome SheetBuilt) (s : SheetEnd) → new .answer ≡ sheet-built.Sheet s →

@@ -12,7 +12,7 @@ use Rattle.refusal.specs.declared.Verdict.the-variants as verdict
 use Rattle.table.specs.Buffers.{Buffers, Outcome, buffers}
 use Rattle.table.specs.declared.ends.Seam.{Seam}
 use Rattle.table.specs.declared.ends.Seam.the-variants as seam
-use Rattle.curve.specs.Curve.{toldCurve}
+use Rattle.curve.specs.Curve.{curveInNumbers}
 use Rattle.curve.specs.declared.curve.Built.{Built}
 use Rattle.curve.specs.declared.curve.Built.the-variants as built
 
@@ -54,7 +54,7 @@ abbrev pub curveAcross : Buffers → List ℕ → List Float → Outcome Built �
 curveAcross b sections tail o =
     cond (noAnswer (length sections) (length tail))
     (record { refusal = shortRefusal (o .answer); buffers = b; sections = sections; tail = tail })
-    (record { refusal = toldCurve (o .answer) .refusal; buffers = o .buffers; sections = countLeft (o .answer) sections; tail = tailLeft (o .answer) tail })
+    (record { refusal = curveInNumbers (o .answer) .refusal; buffers = o .buffers; sections = countLeft (o .answer) sections; tail = tailLeft (o .answer) tail })
 
 -- steps of the code: what a check says where an answer's slice is too short
 abbrev pub lastRefusal : Verdict → ℕ

@@ -10,7 +10,7 @@ use Rattle.refusal.specs.declared.Refusal.the-variants.{BufferTooShort}
 use Rattle.table.specs.Buffers.{Buffers, Outcome, buffers}
 use Rattle.table.specs.declared.ends.End.{End}
 use Rattle.table.specs.declared.ends.End.the-variants as end
-use Rattle.sheets.specs.Sheet.{toldSheet}
+use Rattle.sheets.specs.Sheet.{sheetInNumbers}
 use Rattle.sheets.specs.declared.sheet.SheetBuilt.{SheetBuilt}
 use Rattle.sheets.specs.declared.sheet.SheetBuilt.the-variants as sheet-built
 
@@ -43,4 +43,4 @@ abbrev pub sheetAcross : Buffers → List Float → Outcome SheetBuilt → Sheet
 sheetAcross b answer o =
     cond (ltb (length answer) 4)
     (record { refusal = shortRefusal (o .answer); buffers = b; answer = answer })
-    (record { refusal = toldSheet (o .answer) .refusal; buffers = o .buffers; answer = endLeft (o .answer) answer })
+    (record { refusal = sheetInNumbers (o .answer) .refusal; buffers = o .buffers; answer = endLeft (o .answer) answer })

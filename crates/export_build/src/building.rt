@@ -12,7 +12,7 @@ ghost use lib.ListN.{length};
 ghost use Rattle.table.specs.Buffers.{buffers};
 ghost use Rattle.table.specs.Method.{new};
 ghost use Rattle.curve.specs.Build.{buildOutcome};
-ghost use Rattle.curve.specs.Curve.{toldCurve};
+ghost use Rattle.curve.specs.Curve.{curveInNumbers};
 ghost use Rattle.export_build.specs.Building.{seamOf, across, noAnswer, countLeft, tailLeft, curveAcross, lastRefusal};
 
 // A seam across the boundary: whether there is one, its count and its node.
@@ -46,9 +46,9 @@ pub(crate) fn last_refusal(verdict: Verdict) -> u8
 }
 
 // A curve in numbers, its count and tail written where there is room for them.
-pub(crate) fn tell(built: Built, sections: &mut [usize], tail: &mut [f64]) -> u8
+pub(crate) fn write_answer(built: Built, sections: &mut [usize], tail: &mut [f64]) -> u8
     requires { ⌜ (1 ≤ length (now sections)) × (3 ≤ length (now tail)) ⌝ }
-    ensures refusal { λ r. ⌜ r ≡ toldCurve built .refusal ⌝ }
+    ensures refusal { λ r. ⌜ r ≡ curveInNumbers built .refusal ⌝ }
     ensures sections { λ _. ⌜ now (sections .exit) ≡ countLeft built (now (sections .entry)) ⌝ }
     ensures tail { λ _. ⌜ now (tail .exit) ≡ tailLeft built (now (tail .entry)) ⌝ }
 {
@@ -100,5 +100,5 @@ pub extern "C" fn havgrunel_build(
         ));
     }
     let built = build(knots, averages, method, hold, seam, nodes, tags, slots);
-    tell(built, sections, tail)
+    write_answer(built, sections, tail)
 }

@@ -1,7 +1,7 @@
 // A curve grown from the one before it.
 use crate::building::last_refusal;
 use crate::building::no_answer;
-use crate::building::tell;
+use crate::building::write_answer;
 use assembly::sections::Tail;
 use curve::build::build_verdict;
 use curve::curve::Curve;
@@ -122,5 +122,5 @@ pub extern "C" fn havgrunel_grow(
         tags,
         slots,
     );
-    tell(built, sections, tail)
+    write_answer(built, sections, tail)
 }

@@ -1,7 +1,7 @@
 // A table built in sheets.
 use crate::building::last_refusal;
 use crate::building::no_answer;
-use crate::building::tell;
+use crate::building::write_answer;
 use curve::build::build_verdict;
 use refusal::Refusal;
 use sheets::pieces::build_in_sheets;
@@ -36,7 +36,7 @@ fn cut_refusal(
     last_refusal(build_verdict(knots, averages, method, Seam::Absent, nodes, tags, slots))
 }
 
-// Builds the curve of a table in sheets that end at the cuts, which are inner knots in rising order, counted from 0. All that is told and written is
+// Builds the curve of a table in sheets that end at the cuts, which are inner knots in rising order, counted from 0. All that is returned and written is
 // as for `havgrunel_build` with no held period and no seam.
 #[no_mangle]
 pub extern "C" fn havgrunel_build_in_sheets(
@@ -67,5 +67,5 @@ pub extern "C" fn havgrunel_build_in_sheets(
         );
     }
     let built = build_in_sheets(knots, averages, method, cuts, nodes, tags, slots);
-    tell(built, sections, tail)
+    write_answer(built, sections, tail)
 }

@@ -11,7 +11,7 @@ ghost use lib.ListN.{length};
 ghost use Rattle.table.specs.Buffers.{buffers};
 ghost use Rattle.table.specs.Method.{new};
 ghost use Rattle.table.specs.Table.{inner};
-ghost use Rattle.sheets.specs.Sheet.{sheetOutcome, toldSheet};
+ghost use Rattle.sheets.specs.Sheet.{sheetOutcome, sheetInNumbers};
 ghost use Rattle.export_build.specs.OneSheet.{endOf, across, endLeft, sheetAcross};
 
 // The node at an inner knot, from its neighbours and the averages of the periods that end at it and at the knot after it: what the sheets on both
@@ -40,9 +40,9 @@ fn end_of(given: bool, node: f64) -> End
 }
 
 // A sheet in numbers: the total after it and the tail, written where there is room for them.
-fn tell_end(built: SheetBuilt, answer: &mut [f64]) -> u8
+fn write_end(built: SheetBuilt, answer: &mut [f64]) -> u8
     requires { ⌜ 4 ≤ length (now answer) ⌝ }
-    ensures refusal { λ r. ⌜ r ≡ toldSheet built .refusal ⌝ }
+    ensures refusal { λ r. ⌜ r ≡ sheetInNumbers built .refusal ⌝ }
     ensures answer { λ _. ⌜ now (answer .exit) ≡ endLeft built (now (answer .entry)) ⌝ }
 {
     match built {
@@ -108,5 +108,5 @@ pub extern "C" fn havgrunel_sheet(
         tags,
         slots,
     );
-    tell_end(built, answer)
+    write_end(built, answer)
 }

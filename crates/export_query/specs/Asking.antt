@@ -7,7 +7,7 @@ use lib.Ieee.{Float}
 use lib.ListN.{length, set}
 use Rattle.numbers.specs.OneOutcome.{pair}
 use Rattle.refusal.specs.declared.Refusal.the-variants.{BufferTooShort}
-use Rattle.query.specs.Query.{toldNumber}
+use Rattle.query.specs.Query.{answerInNumbers}
 use Rattle.query.specs.declared.answer.QueryAnswer.{QueryAnswer}
 use Rattle.query.specs.declared.answer.QueryAnswer.the-variants as query-answer
 
@@ -22,4 +22,4 @@ numberLeft (query-answer.Refused r) old = old
 
 -- what comes back for an answer, and what its slice holds afterwards
 abbrev pub answerInto : QueryAnswer → List Float → ℕ × List Float
-answerInto k old = let a = roomed (ltb (length old) 1) k in pair (toldNumber a .refusal) (numberLeft a old)
+answerInto k old = let a = roomed (ltb (length old) 1) k in pair (answerInNumbers a .refusal) (numberLeft a old)

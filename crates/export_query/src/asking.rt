@@ -10,7 +10,7 @@ ghost use Rattle.query.specs.Query.{ask, coveredAt, curveWith};
 ghost use Rattle.export_query.specs.Asking.{answerInto};
 
 // An answer in numbers, written where there is room for it.
-fn tell(asked: QueryAnswer, answer: &mut [f64]) -> u8
+fn write_answer(asked: QueryAnswer, answer: &mut [f64]) -> u8
     ensures { λ r. ⌜ pair r (now (answer .exit)) ≡ answerInto asked (now (answer .entry)) ⌝ }
 {
     match asked {
@@ -41,7 +41,7 @@ pub extern "C" fn havgrunel_value(
     ensures { λ r. ⌜ pair r (now (answer .exit)) ≡ answerInto (ask (λ s. value s x) (coveredAt (now (knots .entry)) (curveWith «tail_value» «tail_total» «tail_from» extrapolate) (now (tags .entry)) (now (slots .entry)) x)) (now (answer .entry)) ⌝ }
 {
     let curve = curve_with(tail_value, tail_total, tail_from, extrapolate);
-    tell(query::single::value(knots, curve, tags, slots, x), answer)
+    write_answer(query::single::value(knots, curve, tags, slots, x), answer)
 }
 
 // The total of all prices up to x, into the first entry of `answer`.
@@ -60,7 +60,7 @@ pub extern "C" fn havgrunel_primitive(
     ensures { λ r. ⌜ pair r (now (answer .exit)) ≡ answerInto (ask (λ s. primitive s x) (coveredAt (now (knots .entry)) (curveWith «tail_value» «tail_total» «tail_from» extrapolate) (now (tags .entry)) (now (slots .entry)) x)) (now (answer .entry)) ⌝ }
 {
     let curve = curve_with(tail_value, tail_total, tail_from, extrapolate);
-    tell(
+    write_answer(
         query::single::primitive(knots, curve, tags, slots, x),
         answer,
     )
@@ -71,5 +71,5 @@ pub extern "C" fn havgrunel_primitive(
 pub extern "C" fn havgrunel_derivative(x: f64) -> u8
     ensures { λ r. ⌜ r ≡ number Refusal.DerivativeAsked ⌝ }
 {
-    query::answer::derivative(x).told().refusal
+    query::answer::derivative(x).in_numbers().refusal
 }

@@ -2,7 +2,7 @@
 use mathlib.Core.Path.{_≡_, _∙_, sym}
 use denote.Ref.{now}
 use Rattle.numbers.specs.OneOutcome.{OneOutcome, pair}
-use Rattle.numbers.proofs.OneOutcome.{both}
+use Rattle.export_section.specs.Kinds.{across}
 use Rattle.export_section.proofs.kinds.havgrunel_everywhere_constant.Reads as havgrunel-everywhere-constant
 use Rattle.export_section.proofs.kinds.havgrunel_constant_grad.Reads as havgrunel-constant-grad
 use Rattle.export_section.proofs.kinds.havgrunel_convex_monotone2.Reads as havgrunel-convex-monotone2
@@ -14,32 +14,32 @@ use Rattle.export_section.proofs.kinds.havgrunel_quadratic_min.Reads as
 use Rattle.export_section.proofs.records.havgrunel_record.Reads as havgrunel-record
 use Rattle.export_section.proofs.records.havgrunel_section.Reads as havgrunel-section
 
-pub havgrunel-everywhere-constant-unique : OneOutcome havgrunel-everywhere-constant.Post (λ κ r s. let (_, (_, (_, (tag, (slots, _))))) = s in pair r (pair (now tag) (now slots)))
-havgrunel-everywhere-constant-unique κ a r₁ r₂ s t p q = both (p .0 ∙ sym (q .0)) (both (p .1 .0 ∙ sym (q .1 .0)) (p .1 .1 ∙ sym (q .1 .1)))
+pub havgrunel-everywhere-constant-unique : OneOutcome havgrunel-everywhere-constant.Post (λ κ r s. let (_, (_, (_, (tag, (slots, _))))) = s in across r (now tag) (now slots))
+havgrunel-everywhere-constant-unique κ a r₁ r₂ s t p q = p ∙ sym q
 
-pub havgrunel-constant-grad-unique : OneOutcome havgrunel-constant-grad.Post (λ κ r s. let (_, (_, (_, (_, (_, (tag, (slots, _))))))) = s in pair r (pair (now tag) (now slots)))
-havgrunel-constant-grad-unique κ a r₁ r₂ s t p q = both (p .0 ∙ sym (q .0)) (both (p .1 .0 ∙ sym (q .1 .0)) (p .1 .1 ∙ sym (q .1 .1)))
+pub havgrunel-constant-grad-unique : OneOutcome havgrunel-constant-grad.Post (λ κ r s. let (_, (_, (_, (_, (_, (tag, (slots, _))))))) = s in across r (now tag) (now slots))
+havgrunel-constant-grad-unique κ a r₁ r₂ s t p q = p ∙ sym q
 
-pub havgrunel-convex-monotone2-unique : OneOutcome havgrunel-convex-monotone2.Post (λ κ r s. let (_, (_, (_, (_, (_, (_, (_, (tag, (slots, _))))))))) = s in pair r (pair (now tag) (now slots)))
-havgrunel-convex-monotone2-unique κ a r₁ r₂ s t p q = both (p .0 ∙ sym (q .0)) (both (p .1 .0 ∙ sym (q .1 .0)) (p .1 .1 ∙ sym (q .1 .1)))
+pub havgrunel-convex-monotone2-unique : OneOutcome havgrunel-convex-monotone2.Post (λ κ r s. let (_, (_, (_, (_, (_, (_, (_, (tag, (slots, _))))))))) = s in across r (now tag) (now slots))
+havgrunel-convex-monotone2-unique κ a r₁ r₂ s t p q = p ∙ sym q
 
-pub havgrunel-convex-monotone3-unique : OneOutcome havgrunel-convex-monotone3.Post (λ κ r s. let (_, (_, (_, (_, (_, (_, (_, (tag, (slots, _))))))))) = s in pair r (pair (now tag) (now slots)))
-havgrunel-convex-monotone3-unique κ a r₁ r₂ s t p q = both (p .0 ∙ sym (q .0)) (both (p .1 .0 ∙ sym (q .1 .0)) (p .1 .1 ∙ sym (q .1 .1)))
+pub havgrunel-convex-monotone3-unique : OneOutcome havgrunel-convex-monotone3.Post (λ κ r s. let (_, (_, (_, (_, (_, (_, (_, (tag, (slots, _))))))))) = s in across r (now tag) (now slots))
+havgrunel-convex-monotone3-unique κ a r₁ r₂ s t p q = p ∙ sym q
 
-pub havgrunel-convex-monotone4-unique : OneOutcome havgrunel-convex-monotone4.Post (λ κ r s. let (_, (_, (_, (_, (_, (_, (_, (tag, (slots, _))))))))) = s in pair r (pair (now tag) (now slots)))
-havgrunel-convex-monotone4-unique κ a r₁ r₂ s t p q = both (p .0 ∙ sym (q .0)) (both (p .1 .0 ∙ sym (q .1 .0)) (p .1 .1 ∙ sym (q .1 .1)))
+pub havgrunel-convex-monotone4-unique : OneOutcome havgrunel-convex-monotone4.Post (λ κ r s. let (_, (_, (_, (_, (_, (_, (_, (tag, (slots, _))))))))) = s in across r (now tag) (now slots))
+havgrunel-convex-monotone4-unique κ a r₁ r₂ s t p q = p ∙ sym q
 
-pub havgrunel-convex-monotone4-min-unique : OneOutcome havgrunel-convex-monotone4-min.Post (λ κ r s. let (_, (_, (_, (_, (_, (_, (_, (tag, (slots, _))))))))) = s in pair r (pair (now tag) (now slots)))
-havgrunel-convex-monotone4-min-unique κ a r₁ r₂ s t p q = both (p .0 ∙ sym (q .0)) (both (p .1 .0 ∙ sym (q .1 .0)) (p .1 .1 ∙ sym (q .1 .1)))
+pub havgrunel-convex-monotone4-min-unique : OneOutcome havgrunel-convex-monotone4-min.Post (λ κ r s. let (_, (_, (_, (_, (_, (_, (_, (tag, (slots, _))))))))) = s in across r (now tag) (now slots))
+havgrunel-convex-monotone4-min-unique κ a r₁ r₂ s t p q = p ∙ sym q
 
-pub havgrunel-quadratic-unique : OneOutcome havgrunel-quadratic.Post (λ κ r s. let (_, (_, (_, (_, (_, (_, (tag, (slots, _)))))))) = s in pair r (pair (now tag) (now slots)))
-havgrunel-quadratic-unique κ a r₁ r₂ s t p q = both (p .0 ∙ sym (q .0)) (both (p .1 .0 ∙ sym (q .1 .0)) (p .1 .1 ∙ sym (q .1 .1)))
+pub havgrunel-quadratic-unique : OneOutcome havgrunel-quadratic.Post (λ κ r s. let (_, (_, (_, (_, (_, (_, (tag, (slots, _)))))))) = s in across r (now tag) (now slots))
+havgrunel-quadratic-unique κ a r₁ r₂ s t p q = p ∙ sym q
 
-pub havgrunel-quadratic-min-unique : OneOutcome havgrunel-quadratic-min.Post (λ κ r s. let (_, (_, (_, (_, (_, (_, (tag, (slots, _)))))))) = s in pair r (pair (now tag) (now slots)))
-havgrunel-quadratic-min-unique κ a r₁ r₂ s t p q = both (p .0 ∙ sym (q .0)) (both (p .1 .0 ∙ sym (q .1 .0)) (p .1 .1 ∙ sym (q .1 .1)))
+pub havgrunel-quadratic-min-unique : OneOutcome havgrunel-quadratic-min.Post (λ κ r s. let (_, (_, (_, (_, (_, (_, (tag, (slots, _)))))))) = s in across r (now tag) (now slots))
+havgrunel-quadratic-min-unique κ a r₁ r₂ s t p q = p ∙ sym q
 
 pub havgrunel-record-unique : OneOutcome havgrunel-record.Post (λ κ r s. let (_, (_, (_, (into, _)))) = s in pair r (now into))
-havgrunel-record-unique κ a r₁ r₂ s t p q = both (p .0 ∙ sym (q .0)) (p .1 ∙ sym (q .1))
+havgrunel-record-unique κ a r₁ r₂ s t p q = p ∙ sym q
 
 pub havgrunel-section-unique : OneOutcome havgrunel-section.Post (λ κ r s. let (_, (_, (_, (answer, _)))) = s in pair r (now answer))
-havgrunel-section-unique κ a r₁ r₂ s t p q = both (p .0 ∙ sym (q .0)) (p .1 ∙ sym (q .1))
+havgrunel-section-unique κ a r₁ r₂ s t p q = p ∙ sym q

@@ -16,26 +16,28 @@ use Rattle.quadratic.specs.QuadraticMin
 use Rattle.section.specs.declared.section.Section.{Section}
 use Rattle.section.specs.declared.section.Section.the-variants as section
 use Rattle.refusal.specs.Refusal.{number}
-use Rattle.numbers.specs.Sizes.{slotCount}
+use Rattle.numbers.specs.Sizes.{fieldCount}
 use Rattle.record.specs.Slots.{slotsOf}
 use Rattle.record.specs.Tag.{tagOf}
 use Rattle.refusal.specs.declared.Refusal.the-variants.{BufferTooShort}
-use Rattle.numbers.specs.Overlay.{unless}
 use Rattle.export_section.specs.Records.{copied}
 
--- a record takes one tag and 24 slots
-abbrev pub noRecord : ℕ → ℕ → Bool
-noRecord tags slots = ltb tags 1 || ltb slots slotCount
+-- a refusal's number, or 0, and the lent tag and slots as they are left
+pub record SectionAcross : Type 0 where
+  pub refusal : ℕ
+  pub tag : List ℕ
+  pub slots : List Float
 
-abbrev pub putRefusal : ℕ → ℕ → ℕ
-putRefusal tags slots = cond (noRecord tags slots) (number BufferTooShort) 0
+abbrev pub across : ℕ → List ℕ → List Float → SectionAcross
+across refusal tag slots = record { refusal = refusal; tag = tag; slots = slots }
 
-module _ (s : Section) (tag : List ℕ) (slots : List Float) where
-  abbrev pub tagPut : List ℕ
-  tagPut = unless (noRecord (length tag) (length slots)) (set tag 0 (tagOf s)) tag
+-- a section by itself takes one tag and its fields
+abbrev pub noRoom : ℕ → ℕ → Bool
+noRoom tags slots = ltb tags 1 || ltb slots fieldCount
 
-  abbrev pub slotsPut : List Float
-  slotsPut = unless (noRecord (length tag) (length slots)) (copied (slotsOf s) slots) slots
+abbrev pub sectionAcross : Section → List ℕ → List Float → SectionAcross
+sectionAcross s tag slots =
+    cond (noRoom (length tag) (length slots)) (across (number BufferTooShort) tag slots) (across 0 (set tag 0 (tagOf s)) (copied fieldCount (slotsOf s) slots))
 
 -- a section of each kind
 abbrev pub constant : Float → Float → Float → Section

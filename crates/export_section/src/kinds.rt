@@ -1,10 +1,10 @@
-// A single section of each kind, made from its own numbers into a tag and 24 slots.
+// A single section of each kind, made from its own numbers into a tag and its fields.
 use crate::records::copy;
 use convex::convex_monotone2::ConvexMonotone2;
 use convex::convex_monotone3::ConvexMonotone3;
 use convex::convex_monotone4::ConvexMonotone4;
 use convex::convex_monotone4_min::ConvexMonotone4Min;
-use numbers::SLOTS;
+use numbers::FIELDS;
 use quadratic::quadratic::Quadratic;
 use quadratic::quadratic_min::QuadraticMin;
 use record::slots::slots_of;
@@ -14,24 +14,21 @@ use section::constant_grad::ConstantGrad;
 use section::everywhere_constant::EverywhereConstant;
 use section::section::Section;
 ghost use mathlib.Core.Path.{_≡_};
-ghost use lib.ListN.{length};
-ghost use Rattle.export_section.specs.Kinds.{putRefusal, tagPut, slotsPut, constant, gradient, second, third, fourth, fourthMin, quadratic, quadraticMin};
+ghost use Rattle.export_section.specs.Kinds.{across, sectionAcross, constant, gradient, second, third, fourth, fourthMin, quadratic, quadraticMin};
 
-// Writes a section's record: its tag into the first entry of `tag`, its numbers into the first 24 of `slots`.
+// Writes a section: its tag into the first entry of `tag`, its fields into the first entries of `slots`.
 fn put(section: Section, tag: &mut [u16], slots: &mut [f64]) -> u8
-    ensures refusal { λ r. ⌜ r ≡ putRefusal (length (now (tag .entry))) (length (now (slots .entry))) ⌝ }
-    ensures tag { λ _. ⌜ now (tag .exit) ≡ tagPut section (now (tag .entry)) (now (slots .entry)) ⌝ }
-    ensures slots { λ _. ⌜ now (slots .exit) ≡ slotsPut section (now (tag .entry)) (now (slots .entry)) ⌝ }
+    ensures { λ r. ⌜ across r (now (tag .exit)) (now (slots .exit)) ≡ sectionAcross section (now (tag .entry)) (now (slots .entry)) ⌝ }
 {
     if tag.len() < 1 {
         return Refusal::BufferTooShort.number();
     }
-    if slots.len() < SLOTS {
+    if slots.len() < FIELDS {
         return Refusal::BufferTooShort.number();
     }
     tag[0] = tag_of(section);
     let numbers = slots_of(section);
-    copy(&numbers, slots);
+    copy(FIELDS, &numbers, slots);
     0
 }
 
@@ -44,9 +41,7 @@ pub extern "C" fn havgrunel_everywhere_constant(
     tag: &mut [u16],
     slots: &mut [f64],
 ) -> u8
-    ensures refusal { λ r. ⌜ r ≡ putRefusal (length (now (tag .entry))) (length (now (slots .entry))) ⌝ }
-    ensures tag { λ _. ⌜ now (tag .exit) ≡ tagPut (constant value «prev_primitive» «x_prev») (now (tag .entry)) (now (slots .entry)) ⌝ }
-    ensures slots { λ _. ⌜ now (slots .exit) ≡ slotsPut (constant value «prev_primitive» «x_prev») (now (tag .entry)) (now (slots .entry)) ⌝ }
+    ensures { λ r. ⌜ across r (now (tag .exit)) (now (slots .exit)) ≡ sectionAcross (constant value «prev_primitive» «x_prev») (now (tag .entry)) (now (slots .entry)) ⌝ }
 {
     let section = EverywhereConstant::new(value, prev_primitive, x_prev);
     put(Section::EverywhereConstant(section), tag, slots)
@@ -63,9 +58,7 @@ pub extern "C" fn havgrunel_constant_grad(
     tag: &mut [u16],
     slots: &mut [f64],
 ) -> u8
-    ensures refusal { λ r. ⌜ r ≡ putRefusal (length (now (tag .entry))) (length (now (slots .entry))) ⌝ }
-    ensures tag { λ _. ⌜ now (tag .exit) ≡ tagPut (gradient «f_prev» «prev_primitive» «x_prev» «x_next» «f_next») (now (tag .entry)) (now (slots .entry)) ⌝ }
-    ensures slots { λ _. ⌜ now (slots .exit) ≡ slotsPut (gradient «f_prev» «prev_primitive» «x_prev» «x_next» «f_next») (now (tag .entry)) (now (slots .entry)) ⌝ }
+    ensures { λ r. ⌜ across r (now (tag .exit)) (now (slots .exit)) ≡ sectionAcross (gradient «f_prev» «prev_primitive» «x_prev» «x_next» «f_next») (now (tag .entry)) (now (slots .entry)) ⌝ }
 {
     let section = ConstantGrad::new(f_prev, prev_primitive, x_prev, x_next, f_next);
     put(Section::ConstantGrad(section), tag, slots)
@@ -84,9 +77,7 @@ pub extern "C" fn havgrunel_convex_monotone2(
     tag: &mut [u16],
     slots: &mut [f64],
 ) -> u8
-    ensures refusal { λ r. ⌜ r ≡ putRefusal (length (now (tag .entry))) (length (now (slots .entry))) ⌝ }
-    ensures tag { λ _. ⌜ now (tag .exit) ≡ tagPut (second «x_prev» «x_next» «g_prev» «g_next» «f_average» eta2 «prev_primitive») (now (tag .entry)) (now (slots .entry)) ⌝ }
-    ensures slots { λ _. ⌜ now (slots .exit) ≡ slotsPut (second «x_prev» «x_next» «g_prev» «g_next» «f_average» eta2 «prev_primitive») (now (tag .entry)) (now (slots .entry)) ⌝ }
+    ensures { λ r. ⌜ across r (now (tag .exit)) (now (slots .exit)) ≡ sectionAcross (second «x_prev» «x_next» «g_prev» «g_next» «f_average» eta2 «prev_primitive») (now (tag .entry)) (now (slots .entry)) ⌝ }
 {
     let section = ConvexMonotone2::new(
         x_prev,
@@ -113,9 +104,7 @@ pub extern "C" fn havgrunel_convex_monotone3(
     tag: &mut [u16],
     slots: &mut [f64],
 ) -> u8
-    ensures refusal { λ r. ⌜ r ≡ putRefusal (length (now (tag .entry))) (length (now (slots .entry))) ⌝ }
-    ensures tag { λ _. ⌜ now (tag .exit) ≡ tagPut (third «x_prev» «x_next» «g_prev» «g_next» «f_average» eta3 «prev_primitive») (now (tag .entry)) (now (slots .entry)) ⌝ }
-    ensures slots { λ _. ⌜ now (slots .exit) ≡ slotsPut (third «x_prev» «x_next» «g_prev» «g_next» «f_average» eta3 «prev_primitive») (now (tag .entry)) (now (slots .entry)) ⌝ }
+    ensures { λ r. ⌜ across r (now (tag .exit)) (now (slots .exit)) ≡ sectionAcross (third «x_prev» «x_next» «g_prev» «g_next» «f_average» eta3 «prev_primitive») (now (tag .entry)) (now (slots .entry)) ⌝ }
 {
     let section = ConvexMonotone3::new(
         x_prev,
@@ -142,9 +131,7 @@ pub extern "C" fn havgrunel_convex_monotone4(
     tag: &mut [u16],
     slots: &mut [f64],
 ) -> u8
-    ensures refusal { λ r. ⌜ r ≡ putRefusal (length (now (tag .entry))) (length (now (slots .entry))) ⌝ }
-    ensures tag { λ _. ⌜ now (tag .exit) ≡ tagPut (fourth «x_prev» «x_next» «g_prev» «g_next» «f_average» eta4 «prev_primitive») (now (tag .entry)) (now (slots .entry)) ⌝ }
-    ensures slots { λ _. ⌜ now (slots .exit) ≡ slotsPut (fourth «x_prev» «x_next» «g_prev» «g_next» «f_average» eta4 «prev_primitive») (now (tag .entry)) (now (slots .entry)) ⌝ }
+    ensures { λ r. ⌜ across r (now (tag .exit)) (now (slots .exit)) ≡ sectionAcross (fourth «x_prev» «x_next» «g_prev» «g_next» «f_average» eta4 «prev_primitive») (now (tag .entry)) (now (slots .entry)) ⌝ }
 {
     let section = ConvexMonotone4::new(
         x_prev,
@@ -171,9 +158,7 @@ pub extern "C" fn havgrunel_convex_monotone4_min(
     tag: &mut [u16],
     slots: &mut [f64],
 ) -> u8
-    ensures refusal { λ r. ⌜ r ≡ putRefusal (length (now (tag .entry))) (length (now (slots .entry))) ⌝ }
-    ensures tag { λ _. ⌜ now (tag .exit) ≡ tagPut (fourthMin «x_prev» «x_next» «g_prev» «g_next» «f_average» eta4 «prev_primitive») (now (tag .entry)) (now (slots .entry)) ⌝ }
-    ensures slots { λ _. ⌜ now (slots .exit) ≡ slotsPut (fourthMin «x_prev» «x_next» «g_prev» «g_next» «f_average» eta4 «prev_primitive») (now (tag .entry)) (now (slots .entry)) ⌝ }
+    ensures { λ r. ⌜ across r (now (tag .exit)) (now (slots .exit)) ≡ sectionAcross (fourthMin «x_prev» «x_next» «g_prev» «g_next» «f_average» eta4 «prev_primitive») (now (tag .entry)) (now (slots .entry)) ⌝ }
 {
     let section = ConvexMonotone4Min::new(
         x_prev,
@@ -199,9 +184,7 @@ pub extern "C" fn havgrunel_quadratic(
     tag: &mut [u16],
     slots: &mut [f64],
 ) -> u8
-    ensures refusal { λ r. ⌜ r ≡ putRefusal (length (now (tag .entry))) (length (now (slots .entry))) ⌝ }
-    ensures tag { λ _. ⌜ now (tag .exit) ≡ tagPut (quadratic «x_prev» «x_next» «f_prev» «f_next» «f_average» «prev_primitive») (now (tag .entry)) (now (slots .entry)) ⌝ }
-    ensures slots { λ _. ⌜ now (slots .exit) ≡ slotsPut (quadratic «x_prev» «x_next» «f_prev» «f_next» «f_average» «prev_primitive») (now (tag .entry)) (now (slots .entry)) ⌝ }
+    ensures { λ r. ⌜ across r (now (tag .exit)) (now (slots .exit)) ≡ sectionAcross (quadratic «x_prev» «x_next» «f_prev» «f_next» «f_average» «prev_primitive») (now (tag .entry)) (now (slots .entry)) ⌝ }
 {
     let section = Quadratic::new(x_prev, x_next, f_prev, f_next, f_average, prev_primitive);
     put(Section::Quadratic(section), tag, slots)
@@ -219,9 +202,7 @@ pub extern "C" fn havgrunel_quadratic_min(
     tag: &mut [u16],
     slots: &mut [f64],
 ) -> u8
-    ensures refusal { λ r. ⌜ r ≡ putRefusal (length (now (tag .entry))) (length (now (slots .entry))) ⌝ }
-    ensures tag { λ _. ⌜ now (tag .exit) ≡ tagPut (quadraticMin «x_prev» «x_next» «f_prev» «f_next» «f_average» «prev_primitive») (now (tag .entry)) (now (slots .entry)) ⌝ }
-    ensures slots { λ _. ⌜ now (slots .exit) ≡ slotsPut (quadraticMin «x_prev» «x_next» «f_prev» «f_next» «f_average» «prev_primitive») (now (tag .entry)) (now (slots .entry)) ⌝ }
+    ensures { λ r. ⌜ across r (now (tag .exit)) (now (slots .exit)) ≡ sectionAcross (quadraticMin «x_prev» «x_next» «f_prev» «f_next» «f_average» «prev_primitive») (now (tag .entry)) (now (slots .entry)) ⌝ }
 {
     let section = QuadraticMin::new(x_prev, x_next, f_prev, f_next, f_average, prev_primitive);
     put(Section::QuadraticMin(section), tag, slots)

@@ -9,22 +9,21 @@ use refusal::Verdict;
 ghost use mathlib.Core.Path.{_≡_};
 ghost use Prim.Native.Nat.{_≤_};
 ghost use lib.ListN.{length};
+ghost use Rattle.numbers.specs.OneOutcome.{pair};
 ghost use Rattle.record.specs.Reading.{readSection};
-ghost use Rattle.numbers.specs.Sizes.{slotCount};
-ghost use Rattle.refusal.specs.Refusal.{verdictNumber};
-ghost use Rattle.export_section.specs.Records.{copied, copyVerdict, copyLeft, sectionRefusal, sectionLeft};
+ghost use Rattle.export_section.specs.Records.{copied, copyVerdict, copiedBy, sectionInto};
 
-// A record's slots, from the start of one slice to the start of another.
-pub(crate) fn copy(from: &[f64], to: &mut [f64])
-    requires { ⌜ (slotCount ≤ length (now from)) × (slotCount ≤ length (now to)) ⌝ }
-    ensures { λ _. ⌜ now (to .exit) ≡ copied (now (from .entry)) (now (to .entry)) ⌝ }
+// So many numbers, from the start of one slice to the start of another.
+pub(crate) fn copy(count: usize, from: &[f64], to: &mut [f64])
+    requires { ⌜ (count ≤ length (now from)) × (count ≤ length (now to)) ⌝ }
+    ensures { λ _. ⌜ now (to .exit) ≡ copied count (now (from .entry)) (now (to .entry)) ⌝ }
 {
-    for k in 0..SLOTS {
+    for k in 0..count {
         to[k] = from[k];
     }
 }
 
-// The slots of section `number` of a curve of `points` points, into the first 24 entries of `into`.
+// The slots of section `number` of a curve of `points` points, into the first entries of `into`.
 #[no_mangle]
 pub extern "C" fn havgrunel_record(
     points: usize,
@@ -32,8 +31,7 @@ pub extern "C" fn havgrunel_record(
     number: usize,
     into: &mut [f64],
 ) -> u8
-    ensures refusal { λ r. ⌜ r ≡ verdictNumber (copyVerdict points (now (slots .entry)) number (now (into .entry))) ⌝ }
-    ensures into { λ _. ⌜ now (into .exit) ≡ copyLeft points (now (slots .entry)) number (now (into .entry)) (copyVerdict points (now (slots .entry)) number (now (into .entry))) ⌝ }
+    ensures { λ r. ⌜ pair r (now (into .exit)) ≡ copiedBy points (now (slots .entry)) number (now (into .entry)) (copyVerdict points (now (slots .entry)) number (now (into .entry))) ⌝ }
 {
     match record_verdict(points, slots, number) {
         Verdict::Refused(refusal) => refusal.number(),
@@ -41,7 +39,7 @@ pub extern "C" fn havgrunel_record(
             if into.len() < SLOTS {
                 return Refusal::BufferTooShort.number();
             }
-            copy(record_slots(points, slots, number), into);
+            copy(SLOTS, record_slots(points, slots, number), into);
             0
         }
     }
@@ -51,8 +49,7 @@ pub extern "C" fn havgrunel_record(
 // of `answer`.
 #[no_mangle]
 pub extern "C" fn havgrunel_section(tag: u16, slots: &[f64], x: f64, answer: &mut [f64]) -> u8
-    ensures refusal { λ r. ⌜ r ≡ sectionRefusal (readSection tag (now (slots .entry))) (length (now (answer .entry))) ⌝ }
-    ensures answer { λ _. ⌜ now (answer .exit) ≡ sectionLeft (readSection tag (now (slots .entry))) x (now (answer .entry)) ⌝ }
+    ensures { λ r. ⌜ pair r (now (answer .exit)) ≡ sectionInto (readSection tag (now (slots .entry))) x (now (answer .entry)) ⌝ }
 {
     match read_section(tag, slots) {
         Found::Illegal => Refusal::RecordNotLegal.number(),

@@ -26,12 +26,12 @@ use Rattle.table.specs.declared.method.ConvexMonotone.{ConvexMonotone}
 use Rattle.choice.specs.declared.period.Period.{Period}
 use Rattle.choice.specs.Choice.{sectionOf}
 use Rattle.curve.specs.Build.{buildVerdict, buildOutcome}
-use Rattle.curve.specs.Curve.{toldCurve, withExtrapolation}
-use Rattle.query.specs.Query.{placeOf, coveredAt, ask, toldNumber}
+use Rattle.curve.specs.Curve.{curveInNumbers, withExtrapolation}
+use Rattle.query.specs.Query.{placeOf, coveredAt, ask, answerInNumbers}
 use Rattle.curve.specs.declared.curve.Built.{Built}
 use Rattle.curve.specs.declared.curve.Curve.{Curve}
-use Rattle.curve.specs.declared.curve.ToldCurve.{ToldCurve}
-use Rattle.query.specs.declared.answer.ToldNumber.{ToldNumber}
+use Rattle.curve.specs.declared.curve.CurveInNumbers.{CurveInNumbers}
+use Rattle.query.specs.declared.answer.AnswerInNumbers.{AnswerInNumbers}
 use Rattle.sheets.specs.Sheet.{sheetOutcome}
 
 pub record Row : Type 0 where
@@ -77,14 +77,14 @@ module _ (x y : List Float) (m : ConvexMonotone) where
   abbrev slotsIn : List Float
   slotsIn = made .buffers .slots
 
-  abbrev told : ToldCurve
-  told = toldCurve (made .answer)
+  abbrev inNumbers : CurveInNumbers
+  inNumbers = curveInNumbers (made .answer)
 
   abbrev curve : Bool → Curve
-  curve allow = record { sections = told .sections; held = false; extrapolates = allow; tail = told .tail }
+  curve allow = record { sections = inNumbers .sections; held = false; extrapolates = allow; tail = inNumbers .tail }
 
-  abbrev valueAt : Bool → Float → ToldNumber
-  valueAt allow q = toldNumber (ask (λ s. section.value s q) (coveredAt x (curve allow) tagsOf slotsIn q))
+  abbrev valueAt : Bool → Float → AnswerInNumbers
+  valueAt allow q = answerInNumbers (ask (λ s. section.value s q) (coveredAt x (curve allow) tagsOf slotsIn q))
 
   abbrev numberWith : Seam → ℕ
   numberWith s = verdictNumber (buildVerdict x y m s lent)
@@ -148,9 +148,9 @@ table =
     ∷ row 2 (getD (tagsOf x2 y2 m2) 1 0) 0x2000
     ∷ row 2 (bits (valueAt x2 y2 m2 false half .answer)) 0x3fec_0000_0000_0000
     ∷ row 2 (bits (valueAt x2 y2 m2 false oneAndAHalf .answer)) 0x4009_0000_0000_0000
-    ∷ row 2 (bits (told x2 y2 m2 .tail .value)) 0x400c_0000_0000_0000
-    ∷ row 2 (bits (told x2 y2 m2 .tail .total)) 0x4010_0000_0000_0000
-    ∷ row 2 (bits (told x2 y2 m2 .tail .from)) 0x4000_0000_0000_0000
+    ∷ row 2 (bits (inNumbers x2 y2 m2 .tail .value)) 0x400c_0000_0000_0000
+    ∷ row 2 (bits (inNumbers x2 y2 m2 .tail .total)) 0x4010_0000_0000_0000
+    ∷ row 2 (bits (inNumbers x2 y2 m2 .tail .from)) 0x4000_0000_0000_0000
     ∷ row 3 (placeOf x2 one) 1
     ∷ row 3 (valueAt x2 y2 m2 false (neg one) .refusal) 13
     ∷ row 3 (bits (valueAt x2 y2 m2 true (neg one) .answer)) 0x4000_0000_0000_0000

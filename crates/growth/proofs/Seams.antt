@@ -30,7 +30,7 @@ use Rattle.growth.specs.declared.growth.Previous.the-variants as previou
 use Rattle.growth.specs.declared.growth.Carried.{Carried}
 use Rattle.growth.specs.declared.growth.Carried.the-variants as carried
 
--- the window, told without the sum
+-- the window, computed without the sum
 pub no-window : (n l : ℕ) → n ≡ 0 → false ≡ firstWindow n l
 no-window n l e = sym (ne-eqb n (l + 1) (λ z. omega arith))
 

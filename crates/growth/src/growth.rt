@@ -27,7 +27,7 @@ pub enum Carried {
     Refused(Refusal),
 }
 
-// Points equal localisation + 1, told without a sum that could wrap.
+// Points equal localisation + 1, computed without a sum that could wrap.
 fn in_first_window(points: usize, localisation: usize) -> bool
     ensures { λ r. ⌜ r ≡ firstWindow points localisation ⌝ }
 {

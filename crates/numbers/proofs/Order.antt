@@ -11,7 +11,7 @@ use lib.Ieee.Fits.{down-pos}
 use borrow.Author.Tests.{ltb-true, lt-ltb}
 use Rattle.numbers.proofs.Ways.{never}
 
--- a / c, b / d and e / f: fractions told by their products across
+-- a / c, b / d and e / f: fractions compared by their products across
 across : (a c b d e f : ℕ) → 0 < c → 0 < d → 0 < f → a * d < b * c → b * f < e * d → a * f < e * c
 across a c b d e f C D F p q =
     let left : a * f * d < b * f * c = subst (λ (m : ℕ). m < b * f * c) (mul-right-comm a d f) (subst (λ (m : ℕ). a * d * f < m) (mul-right-comm b c f) (mul-lt-mul-of-pos-right p F)) in

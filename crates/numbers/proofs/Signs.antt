@@ -1,4 +1,4 @@
--- What a comparison with 0.0 tells of a number, case by case.
+-- What a comparison with 0.0 says of a number, case by case.
 use Prim.Native.Nat as nat
 use Prim.Native.Nat.{ℕ, suc, _+_, _*_, _^_, _<_}
 use native.Mathlib.Nat.{mul-one, one-mul, zero-mul, zero-lt-suc, mul-pos, pow-suc}

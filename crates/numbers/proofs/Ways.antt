@@ -17,8 +17,8 @@ lt-or-le a b = by (ltb a b) (ltb-true a b) (ltb-false a b)
     by false l g = inr (g refl)
 
 -- a call's answer, and what a test made of it, as it stands or turned round
-pub told : {a b t : Bool} → a ≡ b → a ≡ t → b ≡ t
-told e h = sym e ∙ h
+pub returned : {a b t : Bool} → a ≡ b → a ≡ t → b ≡ t
+returned e h = sym e ∙ h
 
 pub asked-not : {a b t : Bool} → a ≡ b → not a ≡ t → not b ≡ t
 asked-not e h = sym (ap not e) ∙ h

@@ -7,7 +7,7 @@ use Rattle.numbers.specs.Words.{zero}
 use Rattle.numbers.proofs.Ways.{never}
 use Rattle.section.specs.declared.section.Section.{Section}
 use Rattle.refusal.specs.declared.Refusal.{Refusal}
-use Rattle.query.specs.Query.{ask, toldNumber}
+use Rattle.query.specs.Query.{ask, answerInNumbers}
 use Rattle.query.specs.declared.answer.Covered.{Covered}
 use Rattle.query.specs.declared.answer.Covered.the-variants as covered
 use Rattle.query.specs.declared.answer.QueryAnswer.{QueryAnswer}
@@ -15,7 +15,7 @@ use Rattle.query.specs.declared.answer.QueryAnswer.the-variants as query-answer
 use Rattle.order.specs.declared.asking.Line.{Line}
 
 abbrev lineFor : QueryAnswer → QueryAnswer → Line
-lineFor v p = record { refusal = toldNumber v .refusal; value = toBits binary64 (toldNumber v .answer); primitive = toBits binary64 (toldNumber p .answer) }
+lineFor v p = record { refusal = answerInNumbers v .refusal; value = toBits binary64 (answerInNumbers v .answer); primitive = toBits binary64 (answerInNumbers p .answer) }
 
 zero-bits : toBits binary64 zero ≡ 0
 unfolding toBits ofBits
@@ -26,7 +26,7 @@ isNumber (query-answer.Number v) = true
 isNumber (query-answer.Refused r) = false
 
 -- refused: zeros, and the primitive is refused alike
-pub none : (f g : Section → Float) (k : Covered) (v : QueryAnswer) (r : Refusal) (n : ℕ) → v ≡ ask f k → v ≡ query-answer.Refused r → n ≡ toldNumber v .refusal →
+pub none : (f g : Section → Float) (k : Covered) (v : QueryAnswer) (r : Refusal) (n : ℕ) → v ≡ ask f k → v ≡ query-answer.Refused r → n ≡ answerInNumbers v .refusal →
     record { refusal = n; value = 0; primitive = 0 } ≡ lineFor (ask f k) (ask g k)
 none f g (covered.Section s) v r n e h m = never (ap isNumber e) (ap isNumber h)
 none f g (covered.Refused q) v r n e h m = rw (m, e, zero-bits)

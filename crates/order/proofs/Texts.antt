@@ -27,8 +27,8 @@ use Rattle.order.specs.Answer.{lineOf, lineByte, lengthFor, byteFor, tex
 use Rattle.order.specs.Form.{numberAt, headerOf, pointsOf, queriesOf, wellFormed, points, queries, hold, allow, method, knots, averages, listOf}
 use Rattle.order.specs.Text.{buildByte, queryByte}
 use Rattle.order.specs.declared.asking.Line.{Line}
-use Rattle.order.specs.declared.answer.Told.{Told}
-use Rattle.order.specs.declared.answer.Told.the-variants as told
+use Rattle.order.specs.declared.answer.OrderAnswer.{OrderAnswer}
+use Rattle.order.specs.declared.answer.OrderAnswer.the-variants as order-answer
 use Rattle.table.specs.declared.method.ConvexMonotone.{ConvexMonotone}
 use Rattle.table.specs.declared.ends.Seam.the-variants as seam
 use Rattle.table.specs.Buffers.{Buffers, Outcome}
@@ -134,14 +134,14 @@ form-text o x y b old p ex ey ep =
 
 -- the answer, by the room and the form
 module _ (o out : List ℕ) where
-  pub too-short : ltb (length out) 2506 ≡ true → pair told.TooShort out ≡ answered o out
+  pub too-short : ltb (length out) 2506 ≡ true → pair order-answer.TooShort out ≡ answered o out
   too-short h = rw h
 
-  pub malformed : (new : List ℕ) → ltb (length out) 2506 ≡ false → wellFormed o ≡ false → new ≡ overlay 0 10 (buildByte 17 0) out → pair (told.Text 10) new ≡ answered o out
-  malformed new h f e = rw (h, f) (ap (pair (told.Text 10)) e)
+  pub malformed : (new : List ℕ) → ltb (length out) 2506 ≡ false → wellFormed o ≡ false → new ≡ overlay 0 10 (buildByte 17 0) out → pair (order-answer.Text 10) new ≡ answered o out
+  malformed new h f e = rw (h, f) (ap (pair (order-answer.Text 10)) e)
 
-  abbrev asText : ℕ × List ℕ → Told × List ℕ
-  asText p = pair (told.Text (p .0)) (p .1)
+  abbrev asText : ℕ × List ℕ → OrderAnswer × List ℕ
+  asText p = pair (order-answer.Text (p .0)) (p .1)
 
   pub well : (p : ℕ × List ℕ) → ltb (length out) 2506 ≡ false → wellFormed o ≡ true → p ≡ textFor o (knots o) (ordered o (knots o) (averages o) room) out → asText p ≡ answered o out
   well p h f e = ap asText e ∙ rw (h, f)
@@ -163,16 +163,16 @@ text-fits o out = by (wellFormed o) (λ h. counts o h .few-queries)
     by true h = (few-lines o (made .answer) (h refl), length-overlay 0 (lengthFor o (made .answer)) (byteFor o (knots o) (made .buffers .tags) (made .buffers .slots) (made .answer)) out)
     by false h = (omega arith, length-overlay 0 10 (buildByte 17 0) out)
 
-abbrev inText : ℕ → Told → ℕ
-inText d (told.Text n) = n
-inText d told.TooShort = d
+abbrev inText : ℕ → OrderAnswer → ℕ
+inText d (order-answer.Text n) = n
+inText d order-answer.TooShort = d
 
 -- a text stands wholly in the buffer that it was written to
-pub holds-text : (o out : List ℕ) (p : Told × List ℕ) (n : ℕ) → length out ≡ 2506 → p ≡ answered o out → p .0 ≡ told.Text n → n ≤ length (p .1)
-holds-text o out p n l e h = by (ltb (length out) 2506) (le-ltb (length out) 2506 (omega (arith, l))) (ap (inText 0) (sym h ∙ ap (λ (q : Told × List ℕ). q .0) e)) (ap (λ (q : Told × List ℕ). length (q .1)) e)
+pub holds-text : (o out : List ℕ) (p : OrderAnswer × List ℕ) (n : ℕ) → length out ≡ 2506 → p ≡ answered o out → p .0 ≡ order-answer.Text n → n ≤ length (p .1)
+holds-text o out p n l e h = by (ltb (length out) 2506) (le-ltb (length out) 2506 (omega (arith, l))) (ap (inText 0) (sym h ∙ ap (λ (q : OrderAnswer × List ℕ). q .0) e)) (ap (λ (q : OrderAnswer × List ℕ). length (q .1)) e)
   where
-    answer : Bool → Told × List ℕ
-    answer b = cond b (pair told.TooShort out) (pair (told.Text (textOf o out .0)) (textOf o out .1))
+    answer : Bool → OrderAnswer × List ℕ
+    answer b = cond b (pair order-answer.TooShort out) (pair (order-answer.Text (textOf o out .0)) (textOf o out .1))
 
     by : (b : Bool) → b ≡ false → n ≡ inText 0 (answer b .0) → length (p .1) ≡ length (answer b .1) → n ≤ length (p .1)
     by true z u v = never refl z

@@ -15,21 +15,21 @@ use Rattle.table.specs.Buffers.{Buffers, Outcome, buffers}
 use Rattle.table.specs.declared.ends.Seam.the-variants as seam
 use Rattle.curve.specs.Build.{buildOutcome}
 use Rattle.curve.specs.Curve.{withExtrapolation}
-use Rattle.query.specs.Query.{coveredAt, ask, toldNumber}
+use Rattle.query.specs.Query.{coveredAt, ask, answerInNumbers}
 use Rattle.curve.specs.declared.curve.Curve.{Curve}
 use Rattle.curve.specs.declared.curve.Built.{Built}
 use Rattle.curve.specs.declared.curve.Built.the-variants as built
 use Rattle.order.specs.Form.{numberAt, wellFormed, points, queries, hold, allow, method, knots, averages}
 use Rattle.order.specs.Text.{buildByte, queryByte}
 use Rattle.order.specs.declared.asking.Line.{Line}
-use Rattle.order.specs.declared.answer.Told.{Told}
-use Rattle.order.specs.declared.answer.Told.the-variants as told
+use Rattle.order.specs.declared.answer.OrderAnswer.{OrderAnswer}
+use Rattle.order.specs.declared.answer.OrderAnswer.the-variants as order-answer
 
 -- what a query is answered: a refusal's number with zeros, or 0 with the bits of its value and of its primitive
 abbrev pub lineOf : List Float → Curve → List ℕ → List Float → Float → Line
 lineOf x c tags slots q =
-    let v = toldNumber (ask (λ s. value s q) (coveredAt x c tags slots q)) in
-    let p = toldNumber (ask (λ s. primitive s q) (coveredAt x c tags slots q)) in
+    let v = answerInNumbers (ask (λ s. value s q) (coveredAt x c tags slots q)) in
+    let p = answerInNumbers (ask (λ s. primitive s q) (coveredAt x c tags slots q)) in
     record { refusal = v .refusal; value = toBits binary64 (v .answer); primitive = toBits binary64 (p .answer) }
 
 -- byte i of all lines of queries in a row; the first query stands at place `from` of the order
@@ -66,5 +66,5 @@ abbrev pub textOf : List ℕ → List ℕ → ℕ × List ℕ
 textOf o out = cond (wellFormed o) (textFor o (knots o) (ordered o (knots o) (averages o) room) out) (pair 10 (overlay 0 10 (buildByte 17 0) out))
 
 -- a buffer of fewer bytes than the longest text has is refused, and not written to
-abbrev pub answered : List ℕ → List ℕ → Told × List ℕ
-answered o out = cond (ltb (length out) 2506) (pair told.TooShort out) (let text = textOf o out in pair (told.Text (text .0)) (text .1))
+abbrev pub answered : List ℕ → List ℕ → OrderAnswer × List ℕ
+answered o out = cond (ltb (length out) 2506) (pair order-answer.TooShort out) (let text = textOf o out in pair (order-answer.Text (text .0)) (text .1))

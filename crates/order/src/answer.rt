@@ -33,8 +33,8 @@ const LONGEST: usize = 2506;
 // The slots of the largest table that an order can have.
 const ROOM: usize = 200 * SLOTS;
 
-// What answering tells: how long the text is, or that the buffer could not hold the longest.
-pub enum Told {
+// What answering returns: how long the text is, or that the buffer could not hold the longest.
+pub enum OrderAnswer {
     Text(usize),
     TooShort,
 }
@@ -140,22 +140,22 @@ fn answer_form(
 
 // Answers an order. The text is at most 2,506 bytes; a buffer that could not hold the longest is not written to. An order that is not well formed has
 // its own text.
-pub fn answer(order: &[u8], out: &mut [u8]) -> Told
+pub fn answer(order: &[u8], out: &mut [u8]) -> OrderAnswer
     ensures { λ r. ⌜ pair r (now (out .exit)) ≡ answered (now (order .entry)) (now (out .entry)) ⌝ }
 {
     if out.len() < LONGEST {
-        return Told::TooShort;
+        return OrderAnswer::TooShort;
     }
     if !well_formed(order) {
         put_build(out, 17, 0);
-        return Told::Text(10);
+        return OrderAnswer::Text(10);
     }
     let mut knots = [0.0; 200];
     let mut averages = [0.0; 200];
     let mut nodes = [0.0; 200];
     let mut tags = [0u16; 200];
     let mut slots = [0.0; ROOM];
-    Told::Text(answer_form(
+    OrderAnswer::Text(answer_form(
         order,
         &mut knots,
         &mut averages,

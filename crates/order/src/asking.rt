@@ -26,7 +26,7 @@ pub(crate) fn ask(xs: &[f64], curve: Curve, tags: &[u16], slots: &[f64], q: f64)
     let asked = value(xs, curve, tags, slots, q);
     let QueryAnswer::Number(v) = asked else {
         return Line {
-            refusal: wide(asked.told().refusal),
+            refusal: wide(asked.in_numbers().refusal),
             value: 0,
             primitive: 0,
         };
@@ -34,7 +34,7 @@ pub(crate) fn ask(xs: &[f64], curve: Curve, tags: &[u16], slots: &[f64], q: f64)
     let total = primitive(xs, curve, tags, slots, q);
     let QueryAnswer::Number(p) = total else {
         return Line {
-            refusal: wide(total.told().refusal),
+            refusal: wide(total.in_numbers().refusal),
             value: 0,
             primitive: 0,
         };

@@ -56,7 +56,7 @@ pub(crate) fn header_of(order: &[u8]) -> u64
     number_from(order, 0, 4)
 }
 
-// One of the header's bits, told by its worth.
+// One of the header's bits, named by its worth.
 pub(crate) fn bit(header: u64, worth: u64) -> bool
     requires { ⌜ 0 < worth ⌝ }
     ensures { λ r. ⌜ r ≡ bitOf header worth ⌝ }

@@ -13,7 +13,7 @@ use Rattle.refusal.specs.declared.Verdict.{Verdict}
 use Rattle.refusal.specs.declared.Verdict.the-variants.{Accepted}
 use Rattle.table.specs.Table.{at}
 use Rattle.curve.specs.declared.curve.Curve.{Curve}
-use Rattle.query.specs.Query.{coveredAt, ask, toldNumber}
+use Rattle.query.specs.Query.{coveredAt, ask, answerInNumbers}
 use Rattle.query.specs.Many.{verdictOf, firstRefused, queriesVerdict, answersAfter}
 use Rattle.query.proofs.Covering.{all-accepted}
 
@@ -33,7 +33,7 @@ module _ (x : List Float) (curve : Curve) (tags : List ℕ) (slots qs : List Flo
 
   -- the number at place i is that of query i by itself
   pub same-number : (f : Section → Float → Float) (out : List Float) → length qs ≤ length out → (i : ℕ) → i < length qs →
-      getD (answersAfter f x curve tags slots qs out) i nan ≡ toldNumber (ask (λ s. f s (at qs i)) (coveredAt x curve tags slots (at qs i))) .answer
+      getD (answersAfter f x curve tags slots qs out) i nan ≡ answerInNumbers (ask (λ s. f s (at qs i)) (coveredAt x curve tags slots (at qs i))) .answer
   same-number f out room i l =
       ap (λ (j : ℕ). getD (answersAfter f x curve tags slots qs out) j nan) (sym (zero-add i))
-      ∙ overlay-inside 0 (length qs) (λ k. toldNumber (ask (λ s. f s (at qs k)) (coveredAt x curve tags slots (at qs k))) .answer) out i nan l (omega (arith, room))
+      ∙ overlay-inside 0 (length qs) (λ k. answerInNumbers (ask (λ s. f s (at qs k)) (coveredAt x curve tags slots (at qs k))) .answer) out i nan l (omega (arith, room))

@@ -1,4 +1,4 @@
--- What an accepted curve tells of the lengths, what a verdict makes of the section that was found, and an answer in numbers.
+-- What an accepted curve says of the lengths, what a verdict makes of the section that was found, and an answer in numbers.
 use Prim.Native.Nat.{ℕ, _-_, _*_, _≤_}
 use native.Mathlib.Nat.{le-refl}
 use mathlib.Core.List.{List}
@@ -21,7 +21,7 @@ use Rattle.refusal.specs.declared.Verdict.the-variants as verdict
 use Rattle.refusal.proofs.First.{passed}
 use Rattle.table.specs.Check.{rising}
 use Rattle.table.specs.Sound.{Room}
-use Rattle.query.specs.Query.{curveTests, coveredOf, toldNumber}
+use Rattle.query.specs.Query.{curveTests, coveredOf, answerInNumbers}
 use Rattle.query.specs.declared.answer.QueryAnswer.{QueryAnswer}
 use Rattle.query.specs.declared.answer.Covered.the-variants as covered
 use Rattle.query.specs.declared.answer.QueryAnswer.the-variants as query-answer
@@ -48,8 +48,8 @@ pub found-here : (v : Verdict) (s : Section) (f : Found) → v ≡ verdict.Accep
 found-here v s f e g = rw (e, g)
 
 -- an answer in numbers
-pub told-number : (k : QueryAnswer) (v : Float) → k ≡ query-answer.Number v → record { refusal = 0; answer = v } ≡ toldNumber k
+pub told-number : (k : QueryAnswer) (v : Float) → k ≡ query-answer.Number v → record { refusal = 0; answer = v } ≡ answerInNumbers k
 told-number k v e = rw e
 
-pub told-refusal : (k : QueryAnswer) (r : Refusal) (n : ℕ) → k ≡ query-answer.Refused r → n ≡ number r → record { refusal = n; answer = zero } ≡ toldNumber k
+pub told-refusal : (k : QueryAnswer) (r : Refusal) (n : ℕ) → k ≡ query-answer.Refused r → n ≡ number r → record { refusal = n; answer = zero } ≡ answerInNumbers k
 told-refusal k r n e f = rw (e, f)

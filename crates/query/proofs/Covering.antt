@@ -27,7 +27,7 @@ use Rattle.refusal.specs.declared.Verdict.the-variants.{Accepted, Refused}
 use Rattle.refusal.proofs.First.{both-accept, first-append}
 use Rattle.table.specs.Table.{at}
 use Rattle.curve.specs.declared.curve.Curve.{Curve}
-use Rattle.query.specs.Query.{curveTests, pointTests, queryTests, placeOf, tailSection, covering, coveredOf, coveredAt, ask, toldNumber}
+use Rattle.query.specs.Query.{curveTests, pointTests, queryTests, placeOf, tailSection, covering, coveredOf, coveredAt, ask, answerInNumbers}
 use Rattle.query.specs.declared.answer.QueryAnswer.{QueryAnswer}
 use Rattle.query.specs.declared.answer.QueryAnswer.the-variants as query-answer
 use Rattle.query.specs.declared.answer.Covered.{Covered}
@@ -96,7 +96,7 @@ answered f v k n e h = ap askedOf (sym h) ∙ asked-of-found f k ∙ ap (λ (u :
 pub not-answered : (f : Section → Float) (v : Verdict) (r : Refusal) (k : Found) → v ≡ Refused r → query-answer.Refused r ≡ ask f (coveredOf v k)
 not-answered f v r k e = rw e refl
 
-number-of-found : (f : Section → Float) (k : Found) → toldNumber (ask f (coveredOf Accepted k)) .answer ≡ orZero (answerIn f k)
+number-of-found : (f : Section → Float) (k : Found) → answerInNumbers (ask f (coveredOf Accepted k)) .answer ≡ orZero (answerIn f k)
 number-of-found f (found.Section s) = refl
 number-of-found f found.Illegal = refl
 
@@ -133,16 +133,16 @@ module _ (x : List Float) (curve : Curve) (tags : List ℕ) (slots : List Float)
   verdict-point Accepted f h = refl
   verdict-point (Refused r) f h = h
 
-  -- a query that is not refused is told the number that its record has
+  -- a query that is not refused gets the number that its record has
   pub told : (w : Wanted) → first (curveTests x (length tags) (length slots)) ≡ Accepted → verdictOf (coveredAt x curve tags slots q) ≡ Accepted →
       answerAt (figure w) x curve tags slots q ≡ orZero (answerIn (λ s. figure w s q) (covering x curve tags slots q))
   told w h g =
       let e = of-the-point h in
       let v = verdict-point (first (pointTests x curve q)) (covering x curve tags slots q) (ap verdictOf (sym e) ∙ g) in
-      ap (λ (k : Covered). toldNumber (ask (λ s. figure w s q) k) .answer) (e ∙ ap (λ (u : Verdict). coveredOf u (covering x curve tags slots q)) v)
+      ap (λ (k : Covered). answerInNumbers (ask (λ s. figure w s q) k) .answer) (e ∙ ap (λ (u : Verdict). coveredOf u (covering x curve tags slots q)) v)
       ∙ number-of-found (λ s. figure w s q) (covering x curve tags slots q)
 
-  -- so with the number of the curve's own record, from the last knot on
+  -- so with the number of the curve's tail, from the last knot on
   pub tail-told : (w : Wanted) → first (curveTests x (length tags) (length slots)) ≡ Accepted → verdictOf (coveredAt x curve tags slots q) ≡ Accepted →
       le (at x (length x - 1)) q ≡ true → (v : Float) → v ≡ figure w (tailSection curve) q → v ≡ answerAt (figure w) x curve tags slots q
   tail-told w h g b v e = e ∙ sym (told w h g ∙ ap (λ (f : Found). orZero (answerIn (λ s. figure w s q) f)) (from-the-last b))

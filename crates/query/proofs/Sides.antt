@@ -1,4 +1,4 @@
--- A place told by one comparison: with knots that rise, a knot is above a query exactly where the walk stops before it.
+-- A place found by one comparison: with knots that rise, a knot is above a query exactly where the walk stops before it.
 use Prim.Native.Nat.{ℕ, zero, suc, _+_, _-_, _*_, _/_, _≤_, _<_}
 use native.Mathlib.Omega.{arith}
 use mathlib.Core.Bool.{Bool, true, false, not, _||_}

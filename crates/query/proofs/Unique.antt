@@ -3,7 +3,7 @@ use mathlib.Core.Path.{_≡_, _∙_, sym}
 use denote.Ref.{now}
 use Rattle.numbers.specs.OneOutcome.{OneAnswer, OneOutcome, pair}
 use Rattle.query.proofs.answer.curve_with.Reads as curve-with
-use Rattle.query.proofs.answer.QueryAnswer.told.Reads as query-answer-told
+use Rattle.query.proofs.answer.QueryAnswer.in_numbers.Reads as query-answer-in-numbers
 use Rattle.query.proofs.answer.derivative.Reads as derivative
 use Rattle.query.proofs.many.values.Reads as values
 use Rattle.query.proofs.many.primitives.Reads as primitives
@@ -13,8 +13,8 @@ use Rattle.query.proofs.single.primitive.Reads as primitive
 pub curve-with-unique : OneAnswer curve-with.Post
 curve-with-unique κ a r₁ r₂ s t p q = p ∙ sym q
 
-pub query-answer-told-unique : OneAnswer query-answer-told.Post
-query-answer-told-unique κ a r₁ r₂ s t p q = p ∙ sym q
+pub query-answer-in-numbers-unique : OneAnswer query-answer-in-numbers.Post
+query-answer-in-numbers-unique κ a r₁ r₂ s t p q = p ∙ sym q
 
 pub derivative-unique : OneAnswer derivative.Post
 derivative-unique κ a r₁ r₂ s t p q = p ∙ sym q

@@ -13,7 +13,7 @@ use Rattle.refusal.specs.declared.Verdict.{Verdict}
 use Rattle.refusal.specs.declared.Verdict.the-variants as verdict
 use Rattle.table.specs.Table.{at}
 use Rattle.curve.specs.declared.curve.Curve.{Curve}
-use Rattle.query.specs.Query.{curveTests, coveredAt, ask, toldNumber}
+use Rattle.query.specs.Query.{curveTests, coveredAt, ask, answerInNumbers}
 use Rattle.query.specs.declared.answer.Covered.{Covered}
 use Rattle.query.specs.declared.answer.Covered.the-variants as covered
 
@@ -38,9 +38,9 @@ abbrev pub manyVerdict : List Float → Curve → List ℕ → List Float → Li
 manyVerdict x curve tags slots qs room =
     andThen (first (manyTests x (length tags) (length slots) (length qs) room)) (queriesVerdict x curve tags slots qs)
 
--- the number that one query is told
+-- the number that one query gets
 abbrev pub answerAt : (Section → Float → Float) → List Float → Curve → List ℕ → List Float → Float → Float
-answerAt f x curve tags slots q = toldNumber (ask (λ s. f s q) (coveredAt x curve tags slots q)) .answer
+answerAt f x curve tags slots q = answerInNumbers (ask (λ s. f s q) (coveredAt x curve tags slots q)) .answer
 
 abbrev pub answersAfter : (Section → Float → Float) → List Float → Curve → List ℕ → List Float → List Float → List Float → List Float
 answersAfter f x curve tags slots qs out = overlay 0 (length qs) (λ i. answerAt f x curve tags slots (at qs i)) out

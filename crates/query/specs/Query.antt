@@ -27,9 +27,9 @@ use Rattle.query.specs.declared.answer.Covered.{Covered}
 use Rattle.query.specs.declared.answer.Covered.the-variants as covered
 use Rattle.query.specs.declared.answer.QueryAnswer.{QueryAnswer}
 use Rattle.query.specs.declared.answer.QueryAnswer.the-variants as query-answer
-use Rattle.query.specs.declared.answer.ToldNumber.{ToldNumber}
+use Rattle.query.specs.declared.answer.AnswerInNumbers.{AnswerInNumbers}
 
--- a query reads the record and whether it may leave the knots, and no more
+-- a query reads the tail and whether it may leave the knots, and no more
 abbrev pub curveWith : Float → Float → Float → Bool → Curve
 curveWith value total from allow = record { sections = 0; held = false; extrapolates = allow; tail = record { value = value; total = total; from = from } }
 
@@ -62,7 +62,7 @@ walk x q i (suc left) = cond (lt q (at x (i + 1))) i (walk x q (i + 1) left)
 abbrev pub placeOf : List Float → Float → ℕ
 placeOf x q = walk x q 0 (length x - 2)
 
--- the record's own constant section, from the last knot on; else the section read at its place
+-- the tail's constant section, from the last knot on; else the section read at its place
 abbrev pub tailSection : Curve → Section
 tailSection curve = kind.EverywhereConstant (constant.new (curve .tail .value) (curve .tail .total) (curve .tail .from))
 
@@ -87,6 +87,6 @@ ask f (covered.Section s) = query-answer.Number (f s)
 ask f (covered.Refused r) = query-answer.Refused r
 
 -- a refusal's number, or 0, with the answer
-abbrev pub toldNumber : QueryAnswer → ToldNumber
-toldNumber (query-answer.Number v) = record { refusal = 0; answer = v }
-toldNumber (query-answer.Refused r) = record { refusal = number r; answer = zero }
+abbrev pub answerInNumbers : QueryAnswer → AnswerInNumbers
+answerInNumbers (query-answer.Number v) = record { refusal = 0; answer = v }
+answerInNumbers (query-answer.Refused r) = record { refusal = number r; answer = zero }

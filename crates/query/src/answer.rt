@@ -12,7 +12,7 @@ ghost use Prim.Native.Nat.{_-_, _*_, _≤_};
 ghost use lib.Dec.{ltb};
 ghost use Rattle.refusal.specs.Refusal.{first};
 ghost use Rattle.numbers.specs.Sizes.{slotCount};
-ghost use Rattle.query.specs.Query.{outside, curveTests, pointTests, queryTests, toldNumber, curveWith};
+ghost use Rattle.query.specs.Query.{outside, curveTests, pointTests, queryTests, answerInNumbers, curveWith};
 
 // The section that answers a query, or why there is none. Only the definitions speak of it: the code goes from the slots of a record straight to the number.
 pub enum Covered {
@@ -27,7 +27,7 @@ pub enum QueryAnswer {
 }
 
 // The same in numbers: the refusal's, or 0, and the answer, which is +0.0 where it is refused.
-pub struct ToldNumber {
+pub struct AnswerInNumbers {
     pub refusal: u8,
     pub answer: f64,
 }
@@ -46,12 +46,12 @@ pub fn curve_with(value: f64, total: f64, from: f64, extrapolates: bool) -> Curv
 }
 
 impl QueryAnswer {
-    pub fn told(self) -> ToldNumber
-        ensures { λ r. ⌜ r ≡ toldNumber self ⌝ }
+    pub fn in_numbers(self) -> AnswerInNumbers
+        ensures { λ r. ⌜ r ≡ answerInNumbers self ⌝ }
     {
         match self {
-            QueryAnswer::Number(answer) => ToldNumber { refusal: 0, answer },
-            QueryAnswer::Refused(refusal) => ToldNumber {
+            QueryAnswer::Number(answer) => AnswerInNumbers { refusal: 0, answer },
+            QueryAnswer::Refused(refusal) => AnswerInNumbers {
                 refusal: refusal.number(),
                 answer: 0.0,
             },

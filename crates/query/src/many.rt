@@ -187,7 +187,7 @@ fn answers(
     }
 }
 
-// The price at each of many points, each as `value` tells it.
+// The price at each of many points, each as `value` answers it.
 pub fn values(
     xs: &[f64],
     curve: Curve,
@@ -201,7 +201,7 @@ pub fn values(
     answers(Wanted::Price, xs, curve, tags, slots, qs, out)
 }
 
-// The total up to each of many points, each as `primitive` tells it.
+// The total up to each of many points, each as `primitive` answers it.
 pub fn primitives(
     xs: &[f64],
     curve: Curve,

@@ -1,4 +1,4 @@
-// The number that a query asks: of a record, worked out from its slots, and of the curve's own record. No section is put together for a record.
+// The number that a query asks: of a record, worked out from its slots, and of the curve's tail. No section is put together for a record.
 use curve::curve::Curve;
 use numbers::SLOTS;
 use record::number::Answer;
@@ -20,7 +20,7 @@ pub(crate) enum Wanted {
     Total,
 }
 
-// What the curve's own record answers, from the last knot on.
+// What the curve's tail answers, from the last knot on.
 pub(crate) fn tail_number(curve: Curve, wanted: Wanted, q: f64) -> f64
     ensures { λ r. ⌜ r ≡ figure wanted (tailSection curve) q ⌝ }
 {

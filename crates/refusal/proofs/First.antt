@@ -1,4 +1,4 @@
--- Laws of `first`, for every check that is told in an order.
+-- Laws of `first`, for every check that goes through its tests in an order.
 use mathlib.Core.Bool.{Bool, true, false, cond}
 use mathlib.Core.List.{List, [], _∷_, _++_}
 use mathlib.Core.Path.{_≡_, refl, sym, ap, _∙_}

@@ -51,7 +51,7 @@ pub(crate) fn record_agrees(kept: Kept, at: usize, words: &[u64; MOST]) -> bool 
     record_at(&tags, &slots, at, words)
 }
 
-// A line `e VALUE TOTAL FROM`: whether the record beyond the last knot is as it tells.
+// A line `e VALUE TOTAL FROM`: whether the tail is as it says.
 pub(crate) fn tail_agrees(made: Curve, words: &[u64; MOST]) -> bool {
     let tail = made.tail;
     if numbers::to_bits(tail.value) != words[0] {

@@ -5,7 +5,7 @@ use Rattle.numbers.specs.OneOutcome.{OneAnswer, OneOutcome}
 use Rattle.table.specs.Buffers.{outcome}
 use Rattle.sheets.proofs.pieces.cuts_fit.Reads as cuts-fit
 use Rattle.sheets.proofs.pieces.build_in_sheets.Reads as build-in-sheets
-use Rattle.sheets.proofs.sheet.SheetBuilt.told.Reads as sheet-built-told
+use Rattle.sheets.proofs.sheet.SheetBuilt.in_numbers.Reads as sheet-built-in-numbers
 use Rattle.sheets.proofs.sheet.sheet_verdict.Reads as sheet-verdict
 use Rattle.sheets.proofs.sheet.sheet.Reads as sheet
 
@@ -15,8 +15,8 @@ cuts-fit-unique κ a r₁ r₂ s t p q = p ∙ sym q
 pub build-in-sheets-unique : OneOutcome build-in-sheets.Post (λ κ r s. let (_, (_, (_, (_, (nodes, (tags, (slots, _))))))) = s in outcome r (now nodes) (now tags) (now slots))
 build-in-sheets-unique κ a r₁ r₂ s t p q = p ∙ sym q
 
-pub sheet-built-told-unique : OneAnswer sheet-built-told.Post
-sheet-built-told-unique κ a r₁ r₂ s t p q = p ∙ sym q
+pub sheet-built-in-numbers-unique : OneAnswer sheet-built-in-numbers.Post
+sheet-built-in-numbers-unique κ a r₁ r₂ s t p q = p ∙ sym q
 
 pub sheet-verdict-unique : OneAnswer sheet-verdict.Post
 sheet-verdict-unique κ a r₁ r₂ s t p q = p ∙ sym q

@@ -22,7 +22,7 @@ use Rattle.assembly.specs.declared.sections.Tail.{Tail}
 use Rattle.sheets.specs.declared.sheet.SheetEnd.{SheetEnd}
 use Rattle.sheets.specs.declared.sheet.SheetBuilt.{SheetBuilt}
 use Rattle.sheets.specs.declared.sheet.SheetBuilt.the-variants as sheet-built
-use Rattle.sheets.specs.declared.sheet.ToldSheet.{ToldSheet}
+use Rattle.sheets.specs.declared.sheet.SheetInNumbers.{SheetInNumbers}
 
 abbrev pub noneGiven : End → End → Bool
 noneGiven end.Free end.Free = true
@@ -58,6 +58,6 @@ sheetOutcome x y method l r start place b =
     judged (sheetVerdict x y method l r place b) sheet-built.Refused b (record { answer = sheet-built.Sheet (endOf r (tailOf x y frame)); buffers = after place x y frame b })
 
 -- a refusal's number, or 0, with the total and the tail
-abbrev pub toldSheet : SheetBuilt → ToldSheet
-toldSheet (sheet-built.Sheet s) = record { refusal = 0; total = s .total; tail = s .tail }
-toldSheet (sheet-built.Refused r) = record { refusal = number r; total = zero; tail = noTail }
+abbrev pub sheetInNumbers : SheetBuilt → SheetInNumbers
+sheetInNumbers (sheet-built.Sheet s) = record { refusal = 0; total = s .total; tail = s .tail }
+sheetInNumbers (sheet-built.Refused r) = record { refusal = number r; total = zero; tail = noTail }

@@ -18,7 +18,7 @@ ghost use Rattle.numbers.specs.Sizes.{slotCount};
 ghost use Rattle.refusal.specs.Refusal.{first};
 ghost use Rattle.table.specs.Buffers.{buffers, outcome};
 ghost use Rattle.assembly.specs.Making.{madeFrom};
-ghost use Rattle.sheets.specs.Sheet.{noneGiven, numbersTests, sheetTests, noTail, endOf, sheetOutcome, toldSheet};
+ghost use Rattle.sheets.specs.Sheet.{noneGiven, numbersTests, sheetTests, noTail, endOf, sheetOutcome, sheetInNumbers};
 ghost use Rattle.sheets.specs.Steps.{reaches, partVerdict};
 
 // The total after a sheet's last section, and the tail: three +0.0 where another sheet goes on from there.
@@ -34,7 +34,7 @@ pub enum SheetBuilt {
 }
 
 // An answer in numbers: the refusal's, or 0, and what a sheet has; a refused one has nothing.
-pub struct ToldSheet {
+pub struct SheetInNumbers {
     pub refusal: u8,
     pub total: f64,
     pub tail: Tail,
@@ -51,13 +51,13 @@ pub(crate) fn no_tail() -> Tail
 }
 
 impl SheetBuilt {
-    pub fn told(self) -> ToldSheet
-        ensures { λ r. ⌜ r ≡ toldSheet self ⌝ }
+    pub fn in_numbers(self) -> SheetInNumbers
+        ensures { λ r. ⌜ r ≡ sheetInNumbers self ⌝ }
     {
         match self {
             SheetBuilt::Sheet(end) => {
                 let tail = end.tail;
-                ToldSheet {
+                SheetInNumbers {
                     refusal: 0,
                     total: end.total,
                     tail,
@@ -65,7 +65,7 @@ impl SheetBuilt {
             }
             SheetBuilt::Refused(refusal) => {
                 let tail = no_tail();
-                ToldSheet {
+                SheetInNumbers {
                     refusal: refusal.number(),
                     total: 0.0,
                     tail,
@@ -107,7 +107,7 @@ fn entries_from(entries: usize, place: usize) -> usize
     entries - place
 }
 
-// The slots that are left from a place on, told without a product that could wrap.
+// The slots that are left from a place on, computed without a product that could wrap.
 fn slots_from(slots: usize, place: usize) -> usize
     ensures { λ r. ⌜ r ≡ slots - slotCount * place ⌝ }
 {
@@ -143,7 +143,7 @@ pub fn sheet_verdict(
     }
 }
 
-// Whether a place lies within the lent buffers, told without a product that could wrap.
+// Whether a place lies within the lent buffers, computed without a product that could wrap.
 fn reaches(place: usize, nodes: usize, tags: usize, slots: usize) -> bool
     ensures { λ r. ⌜ r ≡ reaches place nodes tags slots ⌝ }
 {

@@ -57,7 +57,7 @@ all-between xs up ends =
 pub none-below-zero : (n : ℕ) → ltb n 0 ≡ false
 none-below-zero n = le-ltb n 0 zero-le
 
--- n at most c + 1, told without the sum
+-- n at most c + 1, computed without the sum
 pub without-the-sum : (n c : ℕ) → (n ≡ 0 → ⊥) → leb (n - 1) c ≡ leb n (c + 1)
 without-the-sum n c p =
     ⊎-elim

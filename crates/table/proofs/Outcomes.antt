@@ -1,4 +1,4 @@
--- What a call answers and leaves, by its verdict, and what an answer tells of the verdict.
+-- What a call answers and leaves, by its verdict, and what an answer says of the verdict.
 use Prim.Native.Nat.{ℕ}
 use mathlib.Core.List.{List}
 use mathlib.Core.Path.{_≡_, refl, sym, ap, _∙_}

@@ -111,7 +111,7 @@ pub fn table_verdict(xs: &[f64], ys: &[f64], method: ConvexMonotone) -> Verdict
     Verdict::Accepted
 }
 
-// Refusal 8, told without a sum that could wrap.
+// Refusal 8, computed without a sum that could wrap.
 pub fn seam_too_long(seam: Seam, points: usize) -> bool
     ensures { λ r. ⌜ r ≡ seamTooLong seam points ⌝ }
 {

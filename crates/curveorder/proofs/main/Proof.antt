@@ -9,7 +9,7 @@ use Rattle.curveorder.proofs.main.Statement.{statement}
 use Rattle.curveorder.proofs.main.Tie as tie
 
 whole : tie.Need-array-share-prefix-text
-whole c = holds-text _ (replicate {A = ℕ} 2506 0) _ _ (length-replicate {A = ℕ} 2506 0) (c .before .before .before .before .answer .ensures) (c .before .told .given .1)
+whole c = holds-text _ (replicate {A = ℕ} 2506 0) _ _ (length-replicate {A = ℕ} 2506 0) (c .before .before .before .before .answer .ensures) (c .before .answered .given .1)
 
 pub main-spec : {M : Type 1} → statement M
 main-spec =

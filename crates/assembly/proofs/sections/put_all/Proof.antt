@@ -1,4 +1,4 @@
--- `sections::put_all` meets its contract: the nodes, then every section, then the record beyond them.
+-- `sections::put_all` meets its contract: the nodes, then every section, then the tail.
 use native.Mathlib.Omega.{arith}
 use mathlib.Core.Path.{_≡_, sym, ap, _∙_}
 use borrow.Author.Needs.{needs}

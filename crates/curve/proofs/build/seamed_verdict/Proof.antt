@@ -5,7 +5,7 @@ use mathlib.Core.List.{[], _∷_}
 use mathlib.Core.Path.{_≡_}
 use borrow.Author.Needs.{needs}
 use lib.ListN.{length}
-use Rattle.numbers.proofs.Ways.{told}
+use Rattle.numbers.proofs.Ways.{returned}
 use Rattle.refusal.specs.Refusal.{first}
 use Rattle.refusal.specs.declared.Refusal.the-variants as refusal
 use Rattle.refusal.specs.declared.Verdict.the-variants as verdict
@@ -26,7 +26,7 @@ returns c =
     let a = c .before .before .before .before .before .before .before .args in
     let t = tableTests (a .xs .now) (a .ys .now) (a .method) in
     let n = length (a .xs .now) in
-    goes-on _ _ t (seamTest (a .seam) n ∷ []) (c .before .before .before .before .table-verdict .ensures) (c .before .before .enum-told2 .given .1) (too-long (a .seam) n (told (c .before .seam-too-long .ensures) (c .if1 .taken)))
+    goes-on _ _ t (seamTest (a .seam) n ∷ []) (c .before .before .before .before .table-verdict .ensures) (c .before .before .enum-told2 .given .1) (too-long (a .seam) n (returned (c .before .seam-too-long .ensures) (c .if1 .taken)))
 
 returns-2 : tie.Need-returns-2
 returns-2 c =
@@ -39,7 +39,7 @@ returns-3 c =
     let a = c .before .before .before .before .before .before .before .args in
     let t = tableTests (a .xs .now) (a .ys .now) (a .method) in
     let n = length (a .xs .now) in
-    goes-on _ _ t (seamTest (a .seam) n ∷ []) (c .before .before .before .before .table-verdict .ensures) (c .before .before .enum-told2 .given .1) (fitting (a .seam) n (told (c .before .seam-too-long .ensures) (c .if1 .left)))
+    goes-on _ _ t (seamTest (a .seam) n ∷ []) (c .before .before .before .before .table-verdict .ensures) (c .before .before .enum-told2 .given .1) (fitting (a .seam) n (returned (c .before .seam-too-long .ensures) (c .if1 .left)))
 
 pub seamed-verdict-spec : {M : Type 1} → statement M
 seamed-verdict-spec =

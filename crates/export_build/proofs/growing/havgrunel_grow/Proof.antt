@@ -1,4 +1,4 @@
--- `havgrunel_grow` meets its contract: with no room for its answers it asks for the refusal alone, and with room it tells what the library grew.
+-- `havgrunel_grow` meets its contract: with no room for its answers it asks for the refusal alone, and with room it returns what the library grew.
 use Prim.Native.Nat.{ℕ}
 use mathlib.Core.Bool.{false}
 use mathlib.Core.List.{List}
@@ -43,8 +43,8 @@ roomy-here : (c : tie.Else1) → let a = c .before .before .before .before .befo
     noAnswer (length (a .sections .now)) (length (a .tail .now)) ≡ false
 roomy-here c = sym (c .before .no-answer .ensures) ∙ c .if1 .left
 
-tell-requires : tie.Need-tell-requires
-tell-requires c κs = roomy _ _ (roomy-here (c .before .before .before .before .before .before .before .before .before .before .before .before))
+write-answer-requires : tie.Need-write-answer-requires
+write-answer-requires c κs = roomy _ _ (roomy-here (c .before .before .before .before .before .before .before .before .before .before .before .before))
 
 returns-2 : tie.Need-returns-2
 returns-2 c =
@@ -57,7 +57,7 @@ returns-2 c =
     let lent = buffers (a .nodes .now) (a .tags .now) (a .slots .now) in
     curve-roomy lent (a .sections .now) (a .tail .now) _ _ _ _ _ (roomy-here e)
     (g .grow .ensures ∙ same-grow (a .knots .now) (a .averages .now) _ _ (a .localisation) (a .final-size) _ _ (a .previous-tags .now) (a .previous-slots .now) lent (w .new .ensures) (p .previous-of .ensures))
-    (t .tell .ensures)
+    (t .write-answer .ensures)
 
 pub havgrunel-grow-spec : {M : Type 1} → statement M
 havgrunel-grow-spec =
@@ -66,6 +66,6 @@ havgrunel-grow-spec =
     (λ c κs. search needs) (λ c κs. search needs) (λ c κs. search needs) (λ c κs. search needs)
     returns
     (λ c κs. search needs)
-    tell-requires
+    write-answer-requires
     (λ c. search needs) (λ c. search needs) (λ c. search needs) (λ c. search needs) (λ c. search needs)
     returns-2)

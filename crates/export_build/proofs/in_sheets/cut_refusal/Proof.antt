@@ -1,7 +1,7 @@
 -- `in_sheets::cut_refusal` meets its contract: the cuts are asked first, then the table.
 use borrow.Author.Needs.{needs}
 use borrow.Author.Tests.{not-true, not-false}
-use Rattle.numbers.proofs.Ways.{told}
+use Rattle.numbers.proofs.Ways.{returned}
 use Rattle.refusal.specs.Refusal.{first}
 use Rattle.table.specs.declared.ends.Seam.the-variants.{Absent}
 use Rattle.curve.specs.Build.{buildTests}
@@ -13,10 +13,10 @@ returns : tie.Need-returns
 returns c =
     let f = c .before .before in
     let a = f .before .before .before .before .args in
-    cuts-refused _ (first (buildTests (a .knots .now) (a .averages .now) (a .method) Absent (a .nodes) (a .tags) (a .slots))) _ (told (f .cuts-fit .ensures) (not-true _ (c .before .if1 .taken))) (c .number .ensures)
+    cuts-refused _ (first (buildTests (a .knots .now) (a .averages .now) (a .method) Absent (a .nodes) (a .tags) (a .slots))) _ (returned (f .cuts-fit .ensures) (not-true _ (c .before .if1 .taken))) (c .number .ensures)
 
 returns-2 : tie.Need-returns-2
-returns-2 c = cuts-taken _ _ _ _ (told (c .before .before .before .cuts-fit .ensures) (not-false _ (c .before .before .if1 .left))) (c .before .build-verdict .ensures) (c .last-refusal .ensures)
+returns-2 c = cuts-taken _ _ _ _ (returned (c .before .before .before .cuts-fit .ensures) (not-false _ (c .before .before .if1 .left))) (c .before .build-verdict .ensures) (c .last-refusal .ensures)
 
 pub cut-refusal-spec : {M : Type 1} → statement M
 cut-refusal-spec =

@@ -1,4 +1,4 @@
--- `havgrunel_build_in_sheets` meets its contract: with no room for its answers it asks for the refusal alone, and with room it tells what the library built.
+-- `havgrunel_build_in_sheets` meets its contract: with no room for its answers it asks for the refusal alone, and with room it returns what the library built.
 use mathlib.Core.Bool.{false}
 use mathlib.Core.Path.{_≡_, sym, ap, _∙_}
 use borrow.Author.Needs.{needs}
@@ -27,8 +27,8 @@ roomy-here : (c : tie.Else1) → let a = c .before .before .before .before .befo
     noAnswer (length (a .sections .now)) (length (a .tail .now)) ≡ false
 roomy-here c = sym (c .before .no-answer .ensures) ∙ c .if1 .left
 
-tell-requires : tie.Need-tell-requires
-tell-requires c κs = roomy _ _ (roomy-here (c .before .before .before .before .before .before .before .before .before .before .before .before))
+write-answer-requires : tie.Need-write-answer-requires
+write-answer-requires c κs = roomy _ _ (roomy-here (c .before .before .before .before .before .before .before .before .before .before .before .before))
 
 returns-2 : tie.Need-returns-2
 returns-2 c =
@@ -39,7 +39,7 @@ returns-2 c =
     let a = w .before .before .before .before .before .before .before .before .before .args in
     let lent = buffers (a .nodes .now) (a .tags .now) (a .slots .now) in
     curve-roomy lent (a .sections .now) (a .tail .now) _ _ _ _ _ (roomy-here e)
-    (b .build-in-sheets .ensures ∙ ap (λ (m : ConvexMonotone). inSheetsOutcome (a .knots .now) (a .averages .now) m (a .cuts .now) lent) (w .new .ensures)) (t .tell .ensures)
+    (b .build-in-sheets .ensures ∙ ap (λ (m : ConvexMonotone). inSheetsOutcome (a .knots .now) (a .averages .now) m (a .cuts .now) lent) (w .new .ensures)) (t .write-answer .ensures)
 
 pub havgrunel-build-in-sheets-spec : {M : Type 1} → statement M
 havgrunel-build-in-sheets-spec =
@@ -48,6 +48,6 @@ havgrunel-build-in-sheets-spec =
     (λ c κs. search needs) (λ c κs. search needs) (λ c κs. search needs)
     returns
     (λ c κs. search needs)
-    tell-requires
+    write-answer-requires
     (λ c. search needs) (λ c. search needs) (λ c. search needs) (λ c. search needs) (λ c. search needs)
     returns-2)

@@ -1,4 +1,4 @@
--- `havgrunel_sheet` meets its contract: with no room for its answer it asks the library for its refusal alone, and with room it tells what the library built.
+-- `havgrunel_sheet` meets its contract: with no room for its answer it asks the library for its refusal alone, and with room it returns what the library built.
 use Prim.Native.Nat.{ℕ}
 use mathlib.Core.List.{List}
 use mathlib.Core.Path.{_≡_, ap, _∙_}
@@ -48,7 +48,7 @@ returns-2 c =
     let a = w .before .before .before .before .before .before .before .args in
     let b = buffers (a .nodes .now) (a .tags .now) (a .slots .now) in
     sheet-roomy b (a .answer .now) _ _ _ _ (le-ltb _ _ (e .if1 .left))
-    (d .sheet .ensures ∙ same-sheet (a .knots .now) (a .averages .now) _ _ _ _ _ _ (a .start) (a .place) b (w .new .ensures) (l .end-of .ensures) (r .end-of2 .ensures)) (t .tell-end .ensures)
+    (d .sheet .ensures ∙ same-sheet (a .knots .now) (a .averages .now) _ _ _ _ _ _ (a .start) (a .place) b (w .new .ensures) (l .end-of .ensures) (r .end-of2 .ensures)) (t .write-end .ensures)
 
 pub havgrunel-sheet-spec : {M : Type 1} → statement M
 havgrunel-sheet-spec =

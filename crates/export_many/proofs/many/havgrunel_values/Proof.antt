@@ -1,4 +1,4 @@
--- `havgrunel_values` meets its contract: the library's answers stand, and its verdict is told.
+-- `havgrunel_values` meets its contract: the library's answers stand, and its verdict is returned by number.
 use borrow.Author.Needs.{needs}
 use Rattle.section.specs.Section.{value}
 use Rattle.export_many.proofs.Told.{many-told}

@@ -8,4 +8,4 @@ havgrunel-derivative-spec =
     tie.close
     (tie.spec
     (λ c κs. search needs) (λ c κs. search needs)
-    (λ c. rw (c .told .ensures, c .before .derivative .ensures)))
+    (λ c. rw (c .in-numbers .ensures, c .before .derivative .ensures)))

@@ -1,4 +1,4 @@
--- `havgrunel_primitive` meets its contract: the library's answer is told.
+-- `havgrunel_primitive` meets its contract: the library's answer is returned.
 use mathlib.Core.Path.{_∙_, ap}
 use borrow.Author.Needs.{needs}
 use Rattle.section.specs.Section.{primitive}
@@ -16,7 +16,7 @@ returns c =
     let a = v .before .before .before .before .before .before .args in
     query-told _ _ (a .answer .now) _
     (v .primitive .ensures ∙ ap (λ (k : Curve). ask (λ (s : Section). primitive s (a .x)) (coveredAt (a .knots .now) k (a .tags .now) (a .slots .now) (a .x))) (v .before .curve-with .ensures))
-    (t .tell .ensures)
+    (t .write-answer .ensures)
 
 pub havgrunel-primitive-spec : {M : Type 1} → statement M
 havgrunel-primitive-spec =

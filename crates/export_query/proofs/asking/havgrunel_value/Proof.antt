@@ -1,4 +1,4 @@
--- `havgrunel_value` meets its contract: the library's answer is told.
+-- `havgrunel_value` meets its contract: the library's answer is returned.
 use mathlib.Core.Path.{_∙_, ap}
 use borrow.Author.Needs.{needs}
 use Rattle.section.specs.Section.{value}
@@ -16,7 +16,7 @@ returns c =
     let a = v .before .before .before .before .before .before .args in
     query-told _ _ (a .answer .now) _
     (v .value .ensures ∙ ap (λ (k : Curve). ask (λ (s : Section). value s (a .x)) (coveredAt (a .knots .now) k (a .tags .now) (a .slots .now) (a .x))) (v .before .curve-with .ensures))
-    (t .tell .ensures)
+    (t .write-answer .ensures)
 
 pub havgrunel-value-spec : {M : Type 1} → statement M
 havgrunel-value-spec =

@@ -12,7 +12,7 @@ returns c =
     let p = c .before .before .before .before in
     let n = p .before .before .before in
     let a = n .before .before .before .args in
-    put-of (gradient (a .f-prev) (a .prev-primitive) (a .x-prev) (a .x-next) (a .f-next)) (a .tag .now) (a .slots .now) _ _ _ _ (ap section.ConstantGrad (n .new .ensures)) (p .put .ensures)
+    put-of (gradient (a .f-prev) (a .prev-primitive) (a .x-prev) (a .x-next) (a .f-next)) (a .tag .now) (a .slots .now) _ _ (ap section.ConstantGrad (n .new .ensures)) (p .put .ensures)
 
 pub havgrunel-constant-grad-spec : {M : Type 1} → statement M
 havgrunel-constant-grad-spec =

@@ -12,7 +12,7 @@ returns c =
     let p = c .before .before .before .before in
     let n = p .before .before .before in
     let a = n .before .before .before .args in
-    put-of (second (a .x-prev) (a .x-next) (a .g-prev) (a .g-next) (a .f-average) (a .eta2) (a .prev-primitive)) (a .tag .now) (a .slots .now) _ _ _ _ (ap section.ConvexMonotone2 (n .new .ensures)) (p .put .ensures)
+    put-of (second (a .x-prev) (a .x-next) (a .g-prev) (a .g-next) (a .f-average) (a .eta2) (a .prev-primitive)) (a .tag .now) (a .slots .now) _ _ (ap section.ConvexMonotone2 (n .new .ensures)) (p .put .ensures)
 
 pub havgrunel-convex-monotone2-spec : {M : Type 1} → statement M
 havgrunel-convex-monotone2-spec =

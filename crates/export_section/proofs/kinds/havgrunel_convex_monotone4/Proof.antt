@@ -12,7 +12,7 @@ returns c =
     let p = c .before .before .before .before in
     let n = p .before .before .before in
     let a = n .before .before .before .args in
-    put-of (fourth (a .x-prev) (a .x-next) (a .g-prev) (a .g-next) (a .f-average) (a .eta4) (a .prev-primitive)) (a .tag .now) (a .slots .now) _ _ _ _ (ap section.ConvexMonotone4 (n .new .ensures)) (p .put .ensures)
+    put-of (fourth (a .x-prev) (a .x-next) (a .g-prev) (a .g-next) (a .f-average) (a .eta4) (a .prev-primitive)) (a .tag .now) (a .slots .now) _ _ (ap section.ConvexMonotone4 (n .new .ensures)) (p .put .ensures)
 
 pub havgrunel-convex-monotone4-spec : {M : Type 1} → statement M
 havgrunel-convex-monotone4-spec =

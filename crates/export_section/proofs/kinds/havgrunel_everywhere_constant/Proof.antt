@@ -12,7 +12,7 @@ returns c =
     let p = c .before .before .before .before in
     let n = p .before .before .before in
     let a = n .before .before .before .args in
-    put-of (constant (a .value) (a .prev-primitive) (a .x-prev)) (a .tag .now) (a .slots .now) _ _ _ _ (ap section.EverywhereConstant (n .new .ensures)) (p .put .ensures)
+    put-of (constant (a .value) (a .prev-primitive) (a .x-prev)) (a .tag .now) (a .slots .now) _ _ (ap section.EverywhereConstant (n .new .ensures)) (p .put .ensures)
 
 pub havgrunel-everywhere-constant-spec : {M : Type 1} → statement M
 havgrunel-everywhere-constant-spec =

@@ -12,7 +12,7 @@ returns c =
     let p = c .before .before .before .before in
     let n = p .before .before .before in
     let a = n .before .before .before .args in
-    put-of (quadratic (a .x-prev) (a .x-next) (a .f-prev) (a .f-next) (a .f-average) (a .prev-primitive)) (a .tag .now) (a .slots .now) _ _ _ _ (ap section.Quadratic (n .new .ensures)) (p .put .ensures)
+    put-of (quadratic (a .x-prev) (a .x-next) (a .f-prev) (a .f-next) (a .f-average) (a .prev-primitive)) (a .tag .now) (a .slots .now) _ _ (ap section.Quadratic (n .new .ensures)) (p .put .ensures)
 
 pub havgrunel-quadratic-spec : {M : Type 1} → statement M
 havgrunel-quadratic-spec =

@@ -12,7 +12,7 @@ returns c =
     let p = c .before .before .before .before in
     let n = p .before .before .before in
     let a = n .before .before .before .args in
-    put-of (quadraticMin (a .x-prev) (a .x-next) (a .f-prev) (a .f-next) (a .f-average) (a .prev-primitive)) (a .tag .now) (a .slots .now) _ _ _ _ (ap section.QuadraticMin (n .new .ensures)) (p .put .ensures)
+    put-of (quadraticMin (a .x-prev) (a .x-next) (a .f-prev) (a .f-next) (a .f-average) (a .prev-primitive)) (a .tag .now) (a .slots .now) _ _ (ap section.QuadraticMin (n .new .ensures)) (p .put .ensures)
 
 pub havgrunel-quadratic-min-spec : {M : Type 1} → statement M
 havgrunel-quadratic-min-spec =

@@ -11,11 +11,11 @@ use Rattle.export_section.proofs.records.copy.Statement.{statement}
 use Rattle.export_section.proofs.records.copy.Tie as tie
 
 abbrev Inv-loop : tie.InvT-loop
-Inv-loop from to₀ k₀ to k =
-    (k ≤ 24) × (24 ≤ length from) × (24 ≤ length to₀) × (length to ≡ length to₀) × (to ≡ overlay 0 k (λ j. getD from j nan) to₀)
+Inv-loop count from to₀ k₀ to k =
+    (k ≤ count) × (count ≤ length from) × (count ≤ length to₀) × (length to ≡ length to₀) × (to ≡ overlay 0 k (λ j. getD from j nan) to₀)
 
 abbrev μ-loop : tie.MeasureT-loop
-μ-loop from to₀ k₀ to k = 24 - k
+μ-loop count from to₀ k₀ to k = count - k
 
 loop-holds : tie.Need-loop-holds Inv-loop μ-loop
 loop-holds c = (search needs, search needs, search needs, refl, overlay-none _ _ _)
@@ -28,7 +28,7 @@ loop-again c =
 returns : tie.Need-returns Inv-loop μ-loop
 returns c =
     let l = c .before .loop in
-    let e : l .k ≡ 24 = omega arith in
+    let e : l .k ≡ c .before .before .args .count = omega arith in
     rw e at (l .inv .4)
 
 pub copy-spec : {M : Type 1} → statement M

@@ -13,14 +13,14 @@ returns : tie.Need-returns
 returns c =
     let m = c .before .before .before .before .before in
     let a = m .before .before .before .args in
-    section-short (readSection (a .tag) (a .slots .now)) _ _ (a .x) (a .answer .now) (sym (m .read-section .ensures) ∙ c .before .before .before .section .given .1) (lt-ltb _ _ (c .before .if1 .taken))
+    section-short (readSection (a .tag) (a .slots .now)) (a .x) (a .answer .now) _ _ (sym (m .read-section .ensures) ∙ c .before .before .before .section .given .1) (lt-ltb _ _ (c .before .if1 .taken))
     (c .number2 .ensures)
 
 returns-2 : tie.Need-returns-2
 returns-2 c =
     let m = c .before .before .before in
     let a = m .before .before .before .args in
-    section-illegal (readSection (a .tag) (a .slots .now)) _ (a .x) (a .answer .now) (sym (m .read-section .ensures) ∙ c .before .enum-told .given .1) (c .number .ensures)
+    section-illegal (readSection (a .tag) (a .slots .now)) (a .x) (a .answer .now) _ (sym (m .read-section .ensures) ∙ c .before .enum-told .given .1) (c .number .ensures)
 
 returns-3 : tie.Need-returns-3
 returns-3 c =
@@ -29,7 +29,7 @@ returns-3 c =
     let s = v .before .before .before in
     let m = s .before .before in
     let a = m .before .before .before .args in
-    section-written (readSection (a .tag) (a .slots .now)) _ (a .x) _ _ _ (a .answer .now) (sym (m .read-section .ensures) ∙ s .section .given .1) (le-ltb _ _ (v .before .if1 .left)) (v .value .ensures)
+    section-written (readSection (a .tag) (a .slots .now)) (a .x) (a .answer .now) _ _ _ _ (sym (m .read-section .ensures) ∙ s .section .given .1) (le-ltb _ _ (v .before .if1 .left)) (v .value .ensures)
     (p .primitive .ensures) (c .f-next .ensures)
 
 pub havgrunel-section-spec : {M : Type 1} → statement M

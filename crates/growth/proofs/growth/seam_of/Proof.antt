@@ -7,12 +7,12 @@ use borrow.Author.Needs.{needs}
 use lib.ListN.{length}
 use Rattle.growth.specs.Growth.{beyond}
 use Rattle.growth.proofs.Seams.{Holds, holds-all, of-none, of-beyond, of-held, of-free}
-use Rattle.numbers.proofs.Ways.{told}
+use Rattle.numbers.proofs.Ways.{returned}
 use Rattle.growth.proofs.growth.seam_of.Statement.{statement}
 use Rattle.growth.proofs.growth.seam_of.Tie as tie
 
 within : (c : tie.Else2) → let a = c .before .before .before .before .before .args in beyond (a .curve .sections) (length (a .tags .now)) (length (a .slots .now)) ≡ false
-within c = told (c .before .is-beyond .ensures) (c .if2 .left)
+within c = returned (c .before .is-beyond .ensures) (c .if2 .left)
 
 held-in : (c : tie.Else2) → let a = c .before .before .before .before .before .args in Holds (a .curve .sections) (length (a .tags .now)) (length (a .slots .now))
 held-in c = let a = c .before .before .before .before .before .args in holds-all (a .curve .sections) (length (a .tags .now)) (length (a .slots .now)) (within c)
@@ -25,7 +25,7 @@ seam-of-spec =
     (λ c κs. search needs)
     (λ c.
     let a = c .before .before .before .before .before .args in
-    of-beyond (a .curve) (a .tags .now) (a .slots .now) (c .before .before .if1 .left) (told (c .before .is-beyond .ensures) (c .if2 .taken)))
+    of-beyond (a .curve) (a .tags .now) (a .slots .now) (c .before .before .if1 .left) (returned (c .before .is-beyond .ensures) (c .if2 .taken)))
     (λ c. search needs)
     (λ c κs. let h = held-in (c .before) in (omega (arith, h .few), omega (arith, h .in-tags), omega (arith, h .in-slots)))
     (λ c.

@@ -4,7 +4,7 @@ use mathlib.Core.Path.{_≡_, ap, sym, _∙_}
 use borrow.Author.Needs.{needs}
 use borrow.Author.Tests.{lt-ltb, le-ltb, not-true, not-false}
 use lib.ListN.{length}
-use Rattle.numbers.proofs.Ways.{told}
+use Rattle.numbers.proofs.Ways.{returned}
 use Rattle.order.proofs.Texts.{too-short, malformed, well}
 use Rattle.order.proofs.answer.answer.Statement.{statement}
 use Rattle.order.proofs.answer.answer.Tie as tie
@@ -16,18 +16,18 @@ returns-2 : tie.Need-returns-2
 returns-2 c =
     let a = c .before .before .before .before .before .before .before .before .before .args in
     let h = le-ltb (length (a .out .now)) 2506 (c .before .before .before .before .before .before .if1 .left) in
-    let f = told (c .before .before .before .before .before .well-formed .ensures) (not-true _ (c .before .before .before .before .if2 .taken)) in
+    let f = returned (c .before .before .before .before .before .well-formed .ensures) (not-true _ (c .before .before .before .before .if2 .taken)) in
     malformed (a .order .now) (a .out .now) _ h f (c .before .before .put-build .ensures)
 
 returns-3 : tie.Need-returns-3
 returns-3 c =
     let a = c .before .before .before .before .before .before .before .before .before .before .before .before .before .before .before .before .before .before .before .args in
     let h = le-ltb (length (a .out .now)) 2506 (c .before .before .before .before .before .before .before .before .before .before .before .before .before .before .before .before .if1 .left) in
-    let f = told (c .before .before .before .before .before .before .before .before .before .before .before .before .before .before .before .well-formed .ensures) (not-false _ (c .before .before .before .before .before .before .before .before .before .before .before .before .before .before .if2 .left)) in
+    let f = returned (c .before .before .before .before .before .before .before .before .before .before .before .before .before .before .before .well-formed .ensures) (not-false _ (c .before .before .before .before .before .before .before .before .before .before .before .before .before .before .if2 .left)) in
     well (a .order .now) (a .out .now) _ h f (c .before .before .before .before .before .before .before .answer-form .ensures)
 
 answer-form-requires : tie.Need-answer-form-requires
-answer-form-requires c κs = let f = told (c .before .before .before .before .before .before .before .well-formed .ensures) (not-false _ (c .before .before .before .before .before .before .if2 .left)) in (f, search needs, search needs, search needs)
+answer-form-requires c κs = let f = returned (c .before .before .before .before .before .before .before .well-formed .ensures) (not-false _ (c .before .before .before .before .before .before .if2 .left)) in (f, search needs, search needs, search needs)
 
 pub answer-spec : {M : Type 1} → statement M
 answer-spec =

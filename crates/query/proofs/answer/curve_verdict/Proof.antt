@@ -2,7 +2,7 @@
 use mathlib.Core.Path.{ap}
 use borrow.Author.Needs.{needs}
 use borrow.Author.Tests.{lt-ltb, le-ltb}
-use Rattle.numbers.proofs.Ways.{asked-not, told}
+use Rattle.numbers.proofs.Ways.{asked-not, returned}
 use Rattle.table.specs.declared.check.Knots.{Knots}
 use Rattle.query.proofs.answer.curve_verdict.Statement.{statement}
 use Rattle.query.proofs.answer.curve_verdict.Tie as tie
@@ -31,12 +31,12 @@ curve-verdict-spec =
       asked-not (ap (λ (k : Knots). k .finite) (c .before .before .before .before .before .before .before .knots-of .ensures)) (c .before .before .before .before .before .if2 .left),
       asked-not (ap (λ (k : Knots). k .rising) (c .before .before .before .before .before .before .before .knots-of .ensures)) (c .before .before .before .if3 .left),
       le-ltb _ _ (c .before .before .if4 .left),
-      told (c .before .no-room .ensures) (c .if5 .taken),
+      returned (c .before .no-room .ensures) (c .if5 .taken),
     ))
     (λ c. simp (
       le-ltb _ _ (c .before .before .before .before .before .before .before .before .if1 .left),
       asked-not (ap (λ (k : Knots). k .finite) (c .before .before .before .before .before .before .before .knots-of .ensures)) (c .before .before .before .before .before .if2 .left),
       asked-not (ap (λ (k : Knots). k .rising) (c .before .before .before .before .before .before .before .knots-of .ensures)) (c .before .before .before .if3 .left),
       le-ltb _ _ (c .before .before .if4 .left),
-      told (c .before .no-room .ensures) (c .if5 .left),
+      returned (c .before .no-room .ensures) (c .if5 .left),
     )))

@@ -1,6 +1,6 @@
 -- `answer::point_verdict` meets its contract.
 use borrow.Author.Needs.{needs}
-use Rattle.numbers.proofs.Ways.{told}
+use Rattle.numbers.proofs.Ways.{returned}
 use Rattle.query.proofs.answer.point_verdict.Statement.{statement}
 use Rattle.query.proofs.answer.point_verdict.Tie as tie
 
@@ -10,5 +10,5 @@ point-verdict-spec =
     (tie.spec
     (λ c. simp (c .if1 .taken))
     (λ c κs. search needs)
-    (λ c. simp (c .before .before .if1 .left, told (c .before .is-outside .ensures) (c .if2 .taken)))
-    (λ c. simp (c .before .before .if1 .left, told (c .before .is-outside .ensures) (c .if2 .left))))
+    (λ c. simp (c .before .before .if1 .left, returned (c .before .is-outside .ensures) (c .if2 .taken)))
+    (λ c. simp (c .before .before .if1 .left, returned (c .before .is-outside .ensures) (c .if2 .left))))

@@ -8,7 +8,7 @@ use borrow.Author.Needs.{needs}
 use borrow.Author.Tests.{not-true, not-false}
 use lib.Ieee.{Float}
 use lib.ListN.{length}
-use Rattle.numbers.proofs.Ways.{told}
+use Rattle.numbers.proofs.Ways.{returned}
 use Rattle.refusal.specs.declared.Refusal.{Refusal}
 use Rattle.refusal.specs.declared.Refusal.the-variants.{CutsNotInner}
 use Rattle.refusal.specs.declared.Verdict.the-variants as verdict
@@ -59,18 +59,18 @@ module _ (x y : List Float) (method : ConvexMonotone) (cuts : List ℕ) (b : Buf
 returns : tie.Need-returns
 returns c =
     let a = c .before .before .before .before .before .before .before .before .args in
-    unfit (a .xs .now) (a .ys .now) (a .method) (a .cuts .now) _ (told (c .before .cuts-fit .ensures) (not-true _ (c .if1 .taken)))
+    unfit (a .xs .now) (a .ys .now) (a .method) (a .cuts .now) _ (returned (c .before .cuts-fit .ensures) (not-true _ (c .if1 .taken)))
 
 returns-2 : tie.Need-returns-2
 returns-2 c =
     let a = c .before .before .before .before .before .before .before .before .before .before .before .before .before .before .before .before .before .before .before .args in
-    let h = told (c .before .before .before .before .before .before .before .before .before .before .before .before .cuts-fit .ensures) (not-false _ (c .before .before .before .before .before .before .before .before .before .before .before .if1 .left)) in
+    let h = returned (c .before .before .before .before .before .before .before .before .before .before .before .before .cuts-fit .ensures) (not-false _ (c .before .before .before .before .before .before .before .before .before .before .before .if1 .left)) in
     fitting (a .xs .now) (a .ys .now) (a .method) (a .cuts .now) (buffers (a .nodes .now) (a .tags .now) (a .slots .now)) _ h (c .before .before .before .before .before .before .build .ensures)
 
 build-sheets-requires : tie.Need-build-sheets-requires
 build-sheets-requires c κs =
     let a = c .before .before .before .before .before .before .before .before .before .before .before .before .before .before .before .args in
-    let h = told (c .before .before .before .before .before .before .before .before .cuts-fit .ensures) (not-false _ (c .before .before .before .before .before .before .before .if1 .left)) in
+    let h = returned (c .before .before .before .before .before .before .before .before .cuts-fit .ensures) (not-false _ (c .before .before .before .before .before .before .before .if1 .left)) in
     let e = c .before .before .before .before .before .before .if2 .left in
     let k : 0 < length (a .cuts .now) = omega (arith, e) in
     (ready (a .xs .now) (a .ys .now) (a .method) (buffers (a .nodes .now) (a .tags .now) (a .slots .now)) (three (a .cuts .now) (length (a .xs .now)) h k) (sym (c .before .before .before .before .before .build-verdict .ensures) ∙ c .before .before .before .enum-told .given .1), (k, h))
@@ -78,7 +78,7 @@ build-sheets-requires c κs =
 sub-t33 : tie.Need-sub-t33
 sub-t33 c =
     let a = c .before .before .before .before .before .before .before .before .before .before .before .before .before .before .before .before .before .before .before .before .before .before .args in
-    let h = told (c .before .before .before .before .before .before .before .before .before .before .before .before .before .before .before .cuts-fit .ensures) (not-false _ (c .before .before .before .before .before .before .before .before .before .before .before .before .before .before .if1 .left)) in
+    let h = returned (c .before .before .before .before .before .before .before .before .before .before .before .before .before .before .before .cuts-fit .ensures) (not-false _ (c .before .before .before .before .before .before .before .before .before .before .before .before .before .before .if1 .left)) in
     let e = c .before .before .before .before .before .before .before .before .before .before .before .before .before .if2 .left in
     let k : 0 < length (a .cuts .now) = omega (arith, e) in
     let n = three (a .cuts .now) (length (a .xs .now)) h k in
@@ -88,7 +88,7 @@ returns-3 : tie.Need-returns-3
 returns-3 c =
     let a = c .before .before .before .before .before .before .before .before .before .before .before .before .before .args in
     let u = a .cuts .now in
-    let h = told (c .before .before .before .before .before .before .cuts-fit .ensures) (not-false _ (c .before .before .before .before .before .if1 .left)) in
+    let h = returned (c .before .before .before .before .before .before .cuts-fit .ensures) (not-false _ (c .before .before .before .before .before .if1 .left)) in
     let e = sym (c .before .before .before .build-verdict .ensures) ∙ c .before .refusal .given .1 in
     let b = buffers (a .nodes .now) (a .tags .now) (a .slots .now) in
     fitting (a .xs .now) (a .ys .now) (a .method) u b _ h (not-built (a .xs .now) (a .ys .now) (a .method) u b _ e)
@@ -99,7 +99,7 @@ returns-4 c =
     let x = a .xs .now in
     let y = a .ys .now in
     let u = a .cuts .now in
-    let h = told (c .before .before .before .before .before .before .before .before .before .before .before .before .before .before .before .cuts-fit .ensures) (not-false _ (c .before .before .before .before .before .before .before .before .before .before .before .before .before .before .if1 .left)) in
+    let h = returned (c .before .before .before .before .before .before .before .before .before .before .before .before .before .before .before .cuts-fit .ensures) (not-false _ (c .before .before .before .before .before .before .before .before .before .before .before .before .before .before .if1 .left)) in
     let z = c .before .before .before .before .before .before .before .before .before .before .before .before .before .if2 .left in
     let k : 0 < length (a .cuts .now) = omega (arith, z) in
     let b = buffers (a .nodes .now) (a .tags .now) (a .slots .now) in

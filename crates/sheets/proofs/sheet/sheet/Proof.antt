@@ -6,7 +6,7 @@ use borrow.Author.Tests.{not-true, not-false}
 use borrow.Author.Needs.{needs}
 use lib.Ieee.{Float}
 use lib.ListN.{length}
-use Rattle.numbers.proofs.Ways.{told}
+use Rattle.numbers.proofs.Ways.{returned}
 use Rattle.refusal.specs.declared.Refusal.{Refusal}
 use Rattle.refusal.specs.declared.Verdict.{Verdict}
 use Rattle.refusal.specs.declared.Verdict.the-variants as verdict
@@ -53,12 +53,12 @@ returns-2 c =
     let s = numbers-sound x (a .ys .now) (a .method) (a .left) (a .right) h in
     refused _ sheet-built.Refused _ _ _
     (settled x (a .ys .now) (a .method) (a .left) (a .right) (a .place) _ _ _ h
-    ∙ outside (a .place) (length (a .nodes .now)) (length (a .tags .now)) (length (a .slots .now)) (length x) (s .low) (c .before .before .if1 .left) (told (c .before .reaches .ensures) (not-true _ (c .if2 .taken))))
+    ∙ outside (a .place) (length (a .nodes .now)) (length (a .tags .now)) (length (a .slots .now)) (length x) (s .low) (c .before .before .if1 .left) (returned (c .before .reaches .ensures) (not-true _ (c .if2 .taken))))
 
 make-from-requires : tie.Need-make-from-requires
 make-from-requires c κs =
     let a = c .before .before .before .before .before .before .before .before .before .before .before .before .before .before .args in
-    let w = within (a .place) (length (a .nodes .now)) (length (a .tags .now)) (length (a .slots .now)) (told (c .before .before .before .before .reaches .ensures) (not-false _ (c .before .before .before .if2 .left))) in
+    let w = within (a .place) (length (a .nodes .now)) (length (a .tags .now)) (length (a .slots .now)) (returned (c .before .before .before .before .reaches .ensures) (not-false _ (c .before .before .before .if2 .left))) in
     (w .in-nodes, w .in-tags, w .in-slots)
 
 returns-3 : tie.Need-returns-3

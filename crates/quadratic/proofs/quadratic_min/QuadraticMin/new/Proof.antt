@@ -1,4 +1,4 @@
--- `QuadraticMin::new` meets its contract: the split rule tells which record is made.
+-- `QuadraticMin::new` meets its contract: the split rule decides which record is made.
 use borrow.Author.Needs.{needs}
 use Rattle.quadratic.specs.QuadraticMin.{new}
 use Rattle.quadratic.proofs.quadratic_min.QuadraticMin.new.Statement.{statement}

@@ -1,10 +1,10 @@
--- `SheetBuilt::told` meets its contract.
+-- `SheetBuilt::in_numbers` meets its contract.
 use borrow.Author.Needs.{needs}
-use Rattle.sheets.proofs.sheet.SheetBuilt.told.Statement.{statement}
-use Rattle.sheets.proofs.sheet.SheetBuilt.told.Tie as tie
+use Rattle.sheets.proofs.sheet.SheetBuilt.in_numbers.Statement.{statement}
+use Rattle.sheets.proofs.sheet.SheetBuilt.in_numbers.Tie as tie
 
-pub told-spec : {M : Type 1} → statement M
-told-spec =
+pub in-numbers-spec : {M : Type 1} → statement M
+in-numbers-spec =
     tie.close
     (tie.spec
     (λ c. search needs) (λ c. search needs) (λ c κs. search needs) (λ c κs. search needs)

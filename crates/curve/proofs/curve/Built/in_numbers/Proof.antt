@@ -1,11 +1,11 @@
--- `Built::told` meets its contract.
+-- `Built::in_numbers` meets its contract.
 use borrow.Author.Needs.{needs}
 use Rattle.curve.proofs.Accepted.{told-curve, told-no-curve}
-use Rattle.curve.proofs.curve.Built.told.Statement.{statement}
-use Rattle.curve.proofs.curve.Built.told.Tie as tie
+use Rattle.curve.proofs.curve.Built.in_numbers.Statement.{statement}
+use Rattle.curve.proofs.curve.Built.in_numbers.Tie as tie
 
-pub told-spec : {M : Type 1} → statement M
-told-spec =
+pub in-numbers-spec : {M : Type 1} → statement M
+in-numbers-spec =
     tie.close
     (tie.spec
     (λ c. search needs) (λ c. search needs) (λ c κs. search needs)

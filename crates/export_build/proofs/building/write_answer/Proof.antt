@@ -1,13 +1,13 @@
--- `building::tell` meets its contract: a refusal goes through, and a curve's four numbers are written.
+-- `building::write_answer` meets its contract: a refusal goes through, and a curve's four numbers are written.
 use native.Mathlib.Omega.{arith}
 use borrow.Author.Needs.{needs}
 use lib.ListN.{length-set}
 use Rattle.export_build.proofs.Across.{curve-refused, curve-written}
-use Rattle.export_build.proofs.building.tell.Statement.{statement}
-use Rattle.export_build.proofs.building.tell.Tie as tie
+use Rattle.export_build.proofs.building.write_answer.Statement.{statement}
+use Rattle.export_build.proofs.building.write_answer.Tie as tie
 
-pub tell-spec : {M : Type 1} → statement M
-tell-spec =
+pub write-answer-spec : {M : Type 1} → statement M
+write-answer-spec =
     tie.close
     (tie.spec
     (λ c. search needs) (λ c κs. search needs) (λ c. search needs) (λ c. search needs) (λ c. search needs)

@@ -1,11 +1,11 @@
--- `QueryAnswer::told` meets its contract.
+-- `QueryAnswer::in_numbers` meets its contract.
 use borrow.Author.Needs.{needs}
 use Rattle.query.proofs.Answers.{told-number, told-refusal}
-use Rattle.query.proofs.answer.QueryAnswer.told.Statement.{statement}
-use Rattle.query.proofs.answer.QueryAnswer.told.Tie as tie
+use Rattle.query.proofs.answer.QueryAnswer.in_numbers.Statement.{statement}
+use Rattle.query.proofs.answer.QueryAnswer.in_numbers.Tie as tie
 
-pub told-spec : {M : Type 1} → statement M
-told-spec =
+pub in-numbers-spec : {M : Type 1} → statement M
+in-numbers-spec =
     tie.close
     (tie.spec
     (λ c. search needs) (λ c. search needs) (λ c κs. search needs)

@@ -1,12 +1,12 @@
--- `asking::tell` meets its contract: a refusal goes through, no room comes last, and else the answer is written.
+-- `asking::write_answer` meets its contract: a refusal goes through, no room comes last, and else the answer is written.
 use borrow.Author.Needs.{needs}
 use borrow.Author.Tests.{lt-ltb, le-ltb}
 use Rattle.export_query.proofs.Told.{query-refused, query-short, query-written}
-use Rattle.export_query.proofs.asking.tell.Statement.{statement}
-use Rattle.export_query.proofs.asking.tell.Tie as tie
+use Rattle.export_query.proofs.asking.write_answer.Statement.{statement}
+use Rattle.export_query.proofs.asking.write_answer.Tie as tie
 
-pub tell-spec : {M : Type 1} → statement M
-tell-spec =
+pub write-answer-spec : {M : Type 1} → statement M
+write-answer-spec =
     tie.close
     (tie.spec
     (λ c. search needs) (λ c κs. search needs) (λ c. search needs) (λ c κs. search needs)

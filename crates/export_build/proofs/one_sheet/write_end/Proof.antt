@@ -1,13 +1,13 @@
--- `one_sheet::tell_end` meets its contract: a refusal goes through, and a sheet's four numbers are written.
+-- `one_sheet::write_end` meets its contract: a refusal goes through, and a sheet's four numbers are written.
 use native.Mathlib.Omega.{arith}
 use borrow.Author.Needs.{needs}
 use lib.ListN.{length-set}
 use Rattle.export_build.proofs.Across.{end-refused, end-written}
-use Rattle.export_build.proofs.one_sheet.tell_end.Statement.{statement}
-use Rattle.export_build.proofs.one_sheet.tell_end.Tie as tie
+use Rattle.export_build.proofs.one_sheet.write_end.Statement.{statement}
+use Rattle.export_build.proofs.one_sheet.write_end.Tie as tie
 
-pub tell-end-spec : {M : Type 1} → statement M
-tell-end-spec =
+pub write-end-spec : {M : Type 1} → statement M
+write-end-spec =
     tie.close
     (tie.spec
     (λ c. search needs) (λ c κs. search needs) (λ c. search needs) (λ c. search needs)
