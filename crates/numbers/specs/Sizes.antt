@@ -1,5 +1,8 @@
--- 01, Buffers and section records: the slots of one record
+-- 01, Buffers and section records: the numbers of one section, and the slots of one record
 use Prim.Native.Nat.{ℕ}
 
+abbrev pub fieldCount : ℕ
+fieldCount = 24
+
 abbrev pub slotCount : ℕ
-slotCount = 24
+slotCount = fieldCount

@@ -3,8 +3,11 @@ ghost use mathlib.Core.Path.{_≡_};
 ghost use lib.Ieee.{binary64, ofBits, toBits};
 ghost use Rattle.numbers.specs.Words.{finite, abs};
 
+// The numbers of one section: its weight, and the fields of its two parts.
+pub const FIELDS: usize = 24;
+
 // The slots of one record, in every lent buffer of slots.
-pub const SLOTS: usize = 24;
+pub const SLOTS: usize = FIELDS;
 
 // Whether x is neither a NaN nor an infinity. No bit pattern is looked at, so a loop of these stays plain float code.
 pub fn is_finite(x: f64) -> bool
