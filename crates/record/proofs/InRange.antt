@@ -15,10 +15,10 @@ pub record InRange (points room number : ℕ) : Type 0 where
 
 pub in-range : (points room number : ℕ) → recordVerdict points room number ≡ Accepted → InRange points room number
 in-range points room number h =
-    let t = passed (recordTests points room number) h in
+    let (few, (many, (short, (past, end)))) = passed (recordTests points room number) h in
     record {
-      low = ltb-false points 2 (t .0);
-      high = ltb-false 4096 points (t .1 .0);
-      fits = ltb-false room (slotCount * (points - 1)) (t .1 .1 .0);
-      below = leb-false (points - 1) number (t .1 .1 .1 .0);
+      low = ltb-false points 2 few;
+      high = ltb-false 4096 points many;
+      fits = ltb-false room (slotCount * (points - 1)) short;
+      below = leb-false (points - 1) number past;
     }
