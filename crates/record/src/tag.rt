@@ -4,7 +4,7 @@ use section::convex_monotone_part::ConvexMonotonePart;
 use section::quadratic_part::QuadraticPart;
 use section::section::Section;
 ghost use mathlib.Core.Path.{_≡_};
-ghost use Rattle.record.specs.Tag.{quadraticBits, otherBits, quadraticTag, convexTag, tagOf, quadraticNamed, otherNamed};
+ghost use Rattle.record.specs.Tag.{quadraticNamed, otherNamed, quadraticTag, convexTag, tagOf};
 
 // The kind of the quadratic part; a Min kind with whether it is split. `Unknown` stands for a code, or a split bit, that has no meaning.
 pub enum QuadraticKind {
@@ -88,32 +88,19 @@ pub(crate) fn other_named(tag: u16) -> OtherKind
     }
 }
 
-fn quadratic_min_bits(split: bool) -> u16
-    ensures { λ r. ⌜ r ≡ quadraticBits (QuadraticKind.QuadraticMin split) ⌝ }
-{
-    if split {
-        QUADRATIC_MIN_SPLIT
-    } else {
-        QUADRATIC_MIN
-    }
-}
-
-fn fourth_min_bits(split: bool) -> u16
-    ensures { λ r. ⌜ r ≡ otherBits (OtherKind.ConvexMonotone4Min split) ⌝ }
-{
-    if split {
-        CONVEX_MONOTONE4_MIN_SPLIT
-    } else {
-        CONVEX_MONOTONE4_MIN
-    }
-}
-
 fn quadratic_tag(part: QuadraticPart) -> u16
     ensures { λ r. ⌜ r ≡ quadraticTag part ⌝ }
 {
     match part {
         QuadraticPart::Quadratic(_) => QUADRATIC,
-        QuadraticPart::QuadraticMin(s) => quadratic_min_bits(s.split_region),
+        QuadraticPart::QuadraticMin(s) => {
+            let split = s.split_region;
+            if split {
+                QUADRATIC_MIN_SPLIT
+            } else {
+                QUADRATIC_MIN
+            }
+        }
     }
 }
 
@@ -124,7 +111,14 @@ fn convex_tag(part: ConvexMonotonePart) -> u16
         ConvexMonotonePart::ConvexMonotone2(_) => CONVEX_MONOTONE2,
         ConvexMonotonePart::ConvexMonotone3(_) => CONVEX_MONOTONE3,
         ConvexMonotonePart::ConvexMonotone4(_) => CONVEX_MONOTONE4,
-        ConvexMonotonePart::ConvexMonotone4Min(s) => fourth_min_bits(s.split_region),
+        ConvexMonotonePart::ConvexMonotone4Min(s) => {
+            let split = s.split_region;
+            if split {
+                CONVEX_MONOTONE4_MIN_SPLIT
+            } else {
+                CONVEX_MONOTONE4_MIN
+            }
+        }
     }
 }
 
@@ -138,9 +132,9 @@ pub fn tag_of(section: Section) -> u16
         Section::ConvexMonotone2(_) => CONVEX_MONOTONE2,
         Section::ConvexMonotone3(_) => CONVEX_MONOTONE3,
         Section::ConvexMonotone4(_) => CONVEX_MONOTONE4,
-        Section::ConvexMonotone4Min(s) => fourth_min_bits(s.split_region),
+        Section::ConvexMonotone4Min(s) => convex_tag(ConvexMonotonePart::ConvexMonotone4Min(s)),
         Section::Quadratic(_) => QUADRATIC,
-        Section::QuadraticMin(s) => quadratic_min_bits(s.split_region),
+        Section::QuadraticMin(s) => quadratic_tag(QuadraticPart::QuadraticMin(s)),
         Section::Combination(s) => {
             let quadratic = s.quadratic_helper;
             let other = s.conv_mono_helper;

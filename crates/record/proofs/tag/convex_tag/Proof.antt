@@ -9,8 +9,9 @@ unfolding convexTag
 convex-tag-spec =
     tie.close
     (tie.spec
-    (λ c. search needs) (λ c. search needs) (λ c. search needs) (λ c. search needs) (λ c κs. search needs)
+    (λ c. search needs) (λ c. search needs) (λ c. search needs) (λ c. search needs)
     (λ c. rw (c .enum-told .given .1))
     (λ c. rw (c .enum-told2 .given .1))
     (λ c. rw (c .enum-told3 .given .1))
-    (λ c. rw (c .before .before .part .given .1) (c .fourth-min-bits .ensures)))
+    (λ c. rw (c .before .before .part .given .1, c .if1 .taken))
+    (λ c. rw (c .before .before .part .given .1, c .if1 .left)))

@@ -6,7 +6,7 @@ use Rattle.record.proofs.tag.tag_of.Statement.{statement}
 use Rattle.record.proofs.tag.tag_of.Tie as tie
 
 add-result : tie.Need-add-result
-add-result c = record { fits = tags-fit _ _ (c .before .quadratic-tag .ensures) (c .convex-tag .ensures) }
+add-result c = record { fits = tags-fit _ _ (c .before .quadratic-tag2 .ensures) (c .convex-tag2 .ensures) }
 
 pub tag-of-spec : {M : Type 1} → statement M
 unfolding tagOf
@@ -22,7 +22,7 @@ tag-of-spec =
     (λ c. rw (c .enum-told3 .given .1))
     (λ c. rw (c .enum-told4 .given .1))
     (λ c. rw (c .enum-told5 .given .1))
-    (λ c. rw (c .before .before .section .given .1) (c .fourth-min-bits .ensures))
+    (λ c. rw (c .before .before .section .given .1) (c .convex-tag .ensures))
     (λ c. rw (c .enum-told6 .given .1))
-    (λ c. rw (c .before .before .section2 .given .1) (c .quadratic-min-bits .ensures))
-    (λ c. rw (c .before .before .before .section3 .given .1, c .before .quadratic-tag .ensures, c .convex-tag .ensures)))
+    (λ c. rw (c .before .before .section2 .given .1) (c .quadratic-tag .ensures))
+    (λ c. rw (c .before .before .before .section3 .given .1, c .before .quadratic-tag2 .ensures, c .convex-tag2 .ensures)))
