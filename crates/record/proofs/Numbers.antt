@@ -1,6 +1,6 @@
 -- A record's number, worked out from its parts' numbers, is that of the section that it holds.
 use Prim.Native.Nat.{ℕ, _≤_, _<_}
-use mathlib.Core.Path.{_≡_, refl, ap}
+use mathlib.Core.Path.{_≡_, refl, ap, _∙_}
 use mathlib.Core.List.{List}
 use lib.Ieee.{Float}
 use lib.ListN.{length}
@@ -20,7 +20,11 @@ use Rattle.record.specs.declared.reading.QuadraticFound.{QuadraticFound}
 use Rattle.record.specs.declared.reading.QuadraticFound.the-variants as maybeQuadratic
 use Rattle.record.specs.declared.reading.OtherFound.{OtherFound}
 use Rattle.record.specs.declared.reading.OtherFound.the-variants as maybeOther
+use Rattle.record.specs.declared.number.Answer.{Answer}
 use Rattle.record.specs.declared.number.Answer.the-variants as answer
+use Rattle.record.specs.declared.number.Part.{Part}
+use Rattle.record.specs.declared.tag.QuadraticKind.{QuadraticKind}
+use Rattle.record.specs.declared.tag.OtherKind.{OtherKind}
 use Rattle.numbers.specs.Sizes.{fieldCount}
 use Rattle.record.specs.Tag.{quadraticNamed, otherNamed}
 use Rattle.record.specs.Reading.{slot, quadraticFrom, otherFrom, joined, readSection}
@@ -72,6 +76,8 @@ module _ (f : Section → Float) (tag : ℕ) (s : List Float) where
   unfolding readSection
   short-answers h = simp (lt-ltb _ _ h)
 
-  pub parts-answer : Weighs f → fieldCount ≤ length s → together (slot s 0) (quadraticNumber f (quadraticFrom (quadraticNamed tag) s)) (otherNumber f (otherFrom (otherNamed tag) s)) ≡ answerIn f (readSection tag s)
-  unfolding readSection
-  parts-answer weighs h = simp (le-ltb _ _ h) (together-answers f weighs (slot s 0) _ _)
+  module _ {quadraticKind : QuadraticKind} {otherKind : OtherKind} {p o : Part} {a : Answer} where
+    pub parts-answer : Weighs f → fieldCount ≤ length s → quadraticKind ≡ quadraticNamed tag → p ≡ quadraticNumber f (quadraticFrom quadraticKind s) →
+        otherKind ≡ otherNamed tag → o ≡ otherNumber f (otherFrom otherKind s) → a ≡ together (slot s 0) p o → a ≡ answerIn f (readSection tag s)
+    unfolding readSection
+    parts-answer weighs h k e l g t = simp (le-ltb _ _ h) (t ∙ rw (e, k, g, l) (together-answers f weighs (slot s 0) _ _))

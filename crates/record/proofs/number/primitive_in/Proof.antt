@@ -1,5 +1,4 @@
 -- `number::primitive_in` meets its contract.
-use mathlib.Core.Path.{_∙_}
 use borrow.Author.Needs.{needs}
 use Rattle.record.proofs.Numbers.{primitive-weighs, short-answers, parts-answer}
 use Rattle.record.proofs.number.primitive_in.Statement.{statement}
@@ -14,6 +13,7 @@ primitive-in-spec =
     (λ c.
     let o = c .before .before in
     let p = o .before .before in
-    c .together .ensures
-    ∙ rw (p .quadratic-primitive .ensures, p .before .quadratic-named .ensures, o .other-primitive .ensures, o .before .other-named .ensures)
-    (parts-answer _ _ _ (primitive-weighs _) (p .before .before .if1 .left))))
+    parts-answer _ _ _ (primitive-weighs _) (p .before .before .if1 .left)
+    (p .before .quadratic-named .ensures) (p .quadratic-primitive .ensures)
+    (o .before .other-named .ensures) (o .other-primitive .ensures)
+    (c .together .ensures)))

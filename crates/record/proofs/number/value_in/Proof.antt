@@ -1,5 +1,4 @@
 -- `number::value_in` meets its contract.
-use mathlib.Core.Path.{_∙_}
 use borrow.Author.Needs.{needs}
 use Rattle.record.proofs.Numbers.{value-weighs, short-answers, parts-answer}
 use Rattle.record.proofs.number.value_in.Statement.{statement}
@@ -14,6 +13,7 @@ value-in-spec =
     (λ c.
     let o = c .before .before in
     let p = o .before .before in
-    c .together .ensures
-    ∙ rw (p .quadratic-value .ensures, p .before .quadratic-named .ensures, o .other-value .ensures, o .before .other-named .ensures)
-    (parts-answer _ _ _ (value-weighs _) (p .before .before .if1 .left))))
+    parts-answer _ _ _ (value-weighs _) (p .before .before .if1 .left)
+    (p .before .quadratic-named .ensures) (p .quadratic-value .ensures)
+    (o .before .other-named .ensures) (o .other-value .ensures)
+    (c .together .ensures)))
