@@ -1,144 +1,100 @@
--- A tag is read as a section exactly where it is legal, over all 65,536 tags: those with no spare bit set by one computed check; every section's own tag is legal.
-use Prim.Native.Nat.{ℕ, zero, suc, _+_, _*_, _/_, _%_, _^_, _≤_, _<_}
+-- A tag is read as a section exactly where it is legal, over all tags; there are 25 legal ones.
+use Prim.Native.Nat.{ℕ, zero, suc, _+_, _*_, _%_, _^_, _≤_, _<_}
 use native.Mathlib.Omega.{arith}
-use mathlib.Core.Bool.{Bool, true, false, cond, _&&_, _||_, Bool·beq}
+use mathlib.Core.Bool.{Bool, true, false, cond}
 use mathlib.Core.List.{List}
 use mathlib.Core.Logic.{⊎-elim}
-use mathlib.Core.Path.{_≡_, refl, sym, ap, subst, _∙_}
+use mathlib.Core.Path.{_≡_, refl, sym, ap, _∙_}
 use native.Mathlib.Nat.{add-zero, add-suc, zero-add}
-use borrow.Author.Tests.{lt-ltb, le-ltb, eqb-true, eq-eqb, ne-eqb}
-use lib.Dec.{eqb, ltb}
+use borrow.Author.Tests.{lt-ltb, le-ltb}
 use lib.Ieee.{Float}
 use lib.ListN.{length}
-use Rattle.numbers.specs.Every.{allBelow}
-use Rattle.numbers.proofs.Every.{all-at, and-right-false}
+use Rattle.numbers.specs.Sizes.{fieldCount}
 use Rattle.numbers.proofs.Ways.{never, lt-or-le}
-use Rattle.record.specs.Tag.{spare}
-use Rattle.record.specs.Legal.{legal, quadraticSort, otherSort, pairs, readable}
-use Rattle.record.specs.Reading.{quadraticFrom, otherFrom, joined, readSection, isSection, slot}
-use Rattle.record.specs.declared.reading.QuadraticFound.{QuadraticFound}
+use Rattle.section.specs.declared.quadratic_part.QuadraticPart.{QuadraticPart}
+use Rattle.section.specs.declared.quadratic_part.QuadraticPart.the-variants as quadratic
+use Rattle.record.specs.Tag.{otherBits, otherKinds, quadraticNamed, otherNamed}
+use Rattle.record.specs.Legal.{alone, beside, pairs, legal}
+use Rattle.record.specs.Reading.{quadraticIn, quadraticMinIn, quadraticFrom, otherFrom, joined, readSection, isSection}
+use Rattle.record.specs.declared.tag.QuadraticKind.{QuadraticKind}
+use Rattle.record.specs.declared.tag.QuadraticKind.the-variants as quadraticKind
+use Rattle.record.specs.declared.tag.OtherKind.{OtherKind}
+use Rattle.record.specs.declared.tag.OtherKind.the-variants as otherKind
 use Rattle.record.specs.declared.reading.QuadraticFound.the-variants as maybeQuadratic
-use Rattle.record.specs.declared.reading.OtherFound.{OtherFound}
-use Rattle.record.specs.declared.reading.OtherFound.the-variants as maybeOther
 use Rattle.record.specs.declared.reading.Found.{Found}
 use Rattle.record.specs.declared.reading.Found.the-variants as found
+use Rattle.record.proofs.Named.{none-with}
 
--- of each part which sort was found
-abbrev quadraticFoundSort : QuadraticFound → ℕ
-quadraticFoundSort maybeQuadratic.Absent = 0
-quadraticFoundSort (maybeQuadratic.Part p) = 2
-quadraticFoundSort maybeQuadratic.Unknown = 3
+-- two parts make a section where their kinds do, whatever their numbers are
+module _ (w : Float) (s : List Float) where
+  alone-joined : (o : OtherKind) → isSection (joined w maybeQuadratic.Absent (otherFrom o s)) ≡ alone o
+  unfolding joined otherFrom
+  alone-joined otherKind.Absent = refl
+  alone-joined otherKind.EverywhereConstant = refl
+  alone-joined otherKind.ConstantGrad = refl
+  alone-joined otherKind.ConvexMonotone2 = refl
+  alone-joined otherKind.ConvexMonotone3 = refl
+  alone-joined otherKind.ConvexMonotone4 = refl
+  alone-joined (otherKind.ConvexMonotone4Min b) = refl
+  alone-joined otherKind.Unknown = refl
 
-abbrev otherFoundSort : OtherFound → ℕ
-otherFoundSort maybeOther.Absent = 0
-otherFoundSort (maybeOther.Constant s) = 1
-otherFoundSort (maybeOther.Gradient s) = 1
-otherFoundSort (maybeOther.Convex s) = 2
-otherFoundSort maybeOther.Unknown = 3
+  beside-joined : (p : QuadraticPart) (o : OtherKind) → isSection (joined w (maybeQuadratic.Part p) (otherFrom o s)) ≡ beside o
+  unfolding joined otherFrom
+  beside-joined p otherKind.Absent = refl
+  beside-joined p otherKind.EverywhereConstant = refl
+  beside-joined p otherKind.ConstantGrad = refl
+  beside-joined p otherKind.ConvexMonotone2 = refl
+  beside-joined p otherKind.ConvexMonotone3 = refl
+  beside-joined p otherKind.ConvexMonotone4 = refl
+  beside-joined p (otherKind.ConvexMonotone4Min b) = refl
+  beside-joined p otherKind.Unknown = refl
 
-joined-sorts : (w : Float) (q : QuadraticFound) (o : OtherFound) → isSection (joined w q o) ≡ pairs (quadraticFoundSort q) (otherFoundSort o)
-unfolding joined
-joined-sorts w maybeQuadratic.Unknown maybeOther.Absent = refl
-joined-sorts w maybeQuadratic.Unknown maybeOther.Unknown = refl
-joined-sorts w maybeQuadratic.Unknown (maybeOther.Constant s) = refl
-joined-sorts w maybeQuadratic.Unknown (maybeOther.Gradient s) = refl
-joined-sorts w maybeQuadratic.Unknown (maybeOther.Convex s) = refl
-joined-sorts w maybeQuadratic.Absent maybeOther.Absent = refl
-joined-sorts w maybeQuadratic.Absent maybeOther.Unknown = refl
-joined-sorts w maybeQuadratic.Absent (maybeOther.Constant s) = refl
-joined-sorts w maybeQuadratic.Absent (maybeOther.Gradient s) = refl
-joined-sorts w maybeQuadratic.Absent (maybeOther.Convex s) = refl
-joined-sorts w (maybeQuadratic.Part p) maybeOther.Absent = refl
-joined-sorts w (maybeQuadratic.Part p) maybeOther.Unknown = refl
-joined-sorts w (maybeQuadratic.Part p) (maybeOther.Constant s) = refl
-joined-sorts w (maybeQuadratic.Part p) (maybeOther.Gradient s) = refl
-joined-sorts w (maybeQuadratic.Part p) (maybeOther.Convex s) = refl
-
-quadratic-cond : (b : Bool) (x y : QuadraticFound) → quadraticFoundSort (cond b x y) ≡ cond b (quadraticFoundSort x) (quadraticFoundSort y)
-quadratic-cond true x y = refl
-quadratic-cond false x y = refl
-
-other-cond : (b : Bool) (x y : OtherFound) → otherFoundSort (cond b x y) ≡ cond b (otherFoundSort x) (otherFoundSort y)
-other-cond true x y = refl
-other-cond false x y = refl
-
-quadratic-sorts : (code : ℕ) (s : List Float) → quadraticFoundSort (quadraticFrom code s) ≡ quadraticSort code
-unfolding quadraticFrom
-quadratic-sorts code s = simp quadratic-cond
-
-other-sorts : (code : ℕ) (s : List Float) → otherFoundSort (otherFrom code s) ≡ otherSort code
-unfolding otherFrom
-other-sorts code s = simp other-cond
-
--- so the tag alone says whether there is a section
-section-cond : (b : Bool) (x y : Found) → isSection (cond b x y) ≡ cond b (isSection x) (isSection y)
-section-cond true x y = refl
-section-cond false x y = refl
-
-read-readable : (t : ℕ) (s : List Float) → 24 ≤ length s → isSection (readSection t s) ≡ readable t
-unfolding readSection
-read-readable t s h =
-    simp (le-ltb (length s) 24 h, section-cond, joined-sorts, quadratic-sorts, other-sorts)
-
--- a tag with a spare bit set is neither read nor legal
-spare-illegal : (t : ℕ) → eqb (spare t) 0 ≡ false → legal t ≡ false
-spare-illegal t e = simp (e, and-right-false)
-
-spare-unread : (t : ℕ) → eqb (spare t) 0 ≡ false → readable t ≡ false
-spare-unread t e = rw e
-
--- the ways of that, one by one: too few slots, a spare bit, or sorts that are a pair or not
-pub short-unread : (t : ℕ) (s : List Float) → length s < 24 → false ≡ isSection (readSection t s)
-unfolding readSection
-short-unread t s h = simp (lt-ltb _ _ h)
-
-pub marked-unread : (t : ℕ) (s : List Float) → 24 ≤ length s → (spare t ≡ 0 → ⊥) → false ≡ isSection (readSection t s)
-marked-unread t s h k = sym (read-readable t s h ∙ spare-unread t (ne-eqb _ _ k))
-
-pub clear-read : (t : ℕ) (s : List Float) → 24 ≤ length s → spare t ≡ 0 → pairs (quadraticSort (t / 0x1000)) (otherSort (t / 0x80 % 32)) ≡ isSection (readSection t s)
-clear-read t s h k = let r : readable t ≡ pairs (quadraticSort (t / 0x1000)) (otherSort (t / 0x80 % 32)) = simp (eq-eqb _ _ k) in sym (read-readable t s h ∙ r)
-
--- the computed check of all others, of which there are 512
-abbrev agrees : ℕ → Bool
-agrees t = Bool·beq (readable t) (legal t)
-
-checked : allBelow 512 (λ k. agrees (k * 128)) ≡ true
-unfolding allBelow
-checked = refl
-
-beq-same : (a b : Bool) → Bool·beq a b ≡ true → a ≡ b
-beq-same true true h = refl
-beq-same true false h = never h refl
-beq-same false true h = never h refl
-beq-same false false h = refl
-
-by-spare : (clear : Bool) (t : ℕ) → t < 2 ^ 16 → eqb (spare t) 0 ≡ clear → readable t ≡ legal t
-by-spare false t h e = spare-unread t e ∙ sym (spare-illegal t e)
-by-spare true t h e =
-    let z : t % 128 ≡ 0 = eqb-true (spare t) 0 e in
-    let whole : t / 128 * 128 ≡ t = omega arith in
-    let cell = all-at 512 (λ k. agrees (k * 128)) checked (t / 128) (omega arith) in
-    beq-same (readable t) (legal t) (subst (λ (k : ℕ). agrees k ≡ true) whole cell)
-
-readable-legal : (t : ℕ) → t < 2 ^ 16 → readable t ≡ legal t
-readable-legal t h = by-spare (eqb (spare t) 0) t h refl
+  pairs-joined : (q : QuadraticKind) (o : OtherKind) → isSection (joined w (quadraticFrom q s) (otherFrom o s)) ≡ pairs q o
+  unfolding joined quadraticFrom
+  pairs-joined quadraticKind.Absent o = alone-joined o
+  pairs-joined quadraticKind.Quadratic o = beside-joined (quadratic.Quadratic (quadraticIn s)) o
+  pairs-joined (quadraticKind.QuadraticMin b) o = beside-joined (quadratic.QuadraticMin (quadraticMinIn b s)) o
+  pairs-joined quadraticKind.Unknown o = refl
 
 -- a tag is read as a section exactly where document 01 calls it legal
-pub legal-exactly : (t : ℕ) (s : List Float) → t < 2 ^ 16 → 24 ≤ length s → isSection (readSection t s) ≡ legal t
-legal-exactly t s h l = read-readable t s l ∙ readable-legal t h
+pub legal-exactly : (t : ℕ) (s : List Float) → fieldCount ≤ length s → isSection (readSection t s) ≡ legal t
+unfolding readSection
+legal-exactly t s h = simp (le-ltb (length s) fieldCount h) (pairs-joined _ s (quadraticNamed t) (otherNamed t))
+
+pub short-unread : (t : ℕ) (s : List Float) → length s < fieldCount → readSection t s ≡ found.Illegal
+unfolding readSection
+short-unread t s h = simp (lt-ltb (length s) fieldCount h)
 
 no-section : (f : Found) → isSection f ≡ false → f ≡ found.Illegal
 no-section (found.Section s) h = never refl h
 no-section found.Illegal h = refl
 
 -- an illegal tag reads nothing, however many slots there are
-pub illegal-reads-nothing : (t : ℕ) (s : List Float) → t < 2 ^ 16 → legal t ≡ false → readSection t s ≡ found.Illegal
-unfolding readSection
-illegal-reads-nothing t s h e =
+pub illegal-reads-nothing : (t : ℕ) (s : List Float) → legal t ≡ false → readSection t s ≡ found.Illegal
+illegal-reads-nothing t s e =
     ⊎-elim
-    (λ (l : length s < 24). simp (lt-ltb (length s) 24 l))
-    (λ (l : 24 ≤ length s). no-section (readSection t s) (legal-exactly t s h l ∙ e))
-    (lt-or-le (length s) 24)
+    (λ (l : length s < fieldCount). short-unread t s l)
+    (λ (l : fieldCount ≤ length s). no-section (readSection t s) (legal-exactly t s l ∙ e))
+    (lt-or-le (length s) fieldCount)
+
+-- a tag with a spare bit set is not legal: every kind's bits are even beyond those to spare
+abbrev spare : ℕ → ℕ
+spare t = t % 2 ^ 7
+
+unknown-illegal : (q : QuadraticKind) → pairs q otherKind.Unknown ≡ false
+unknown-illegal quadraticKind.Absent = refl
+unknown-illegal quadraticKind.Quadratic = refl
+unknown-illegal (quadraticKind.QuadraticMin b) = refl
+unknown-illegal quadraticKind.Unknown = refl
+
+spare-unknown : (t : ℕ) → (spare t ≡ 0 → ⊥) → otherNamed t ≡ otherKind.Unknown
+unfolding otherNamed
+spare-unknown t k =
+    none-with otherKind.Unknown otherBits (t % 2 ^ 12) (Unit {0}) otherKinds
+    ((((((((tt, λ e. k (omega arith)), λ e. k (omega arith)), λ e. k (omega arith)), λ e. k (omega arith)), λ e. k (omega arith)), λ e. k (omega arith)), λ e. k (omega arith)), λ e. k (omega arith))
+
+spare-illegal : (t : ℕ) → (spare t ≡ 0 → ⊥) → legal t ≡ false
+spare-illegal t k = rw (spare-unknown t k) (unknown-illegal (quadraticNamed t))
 
 -- how many tags of a row are legal, and of all: 25
 abbrev count : ℕ → (ℕ → Bool) → ℕ
@@ -160,9 +116,8 @@ twoOf n = cond (legal (n * 256 + 128)) 1 0 + (cond (legal (n * 256 + 0)) 1 0 + 0
 
 row : (n : ℕ) → count 256 (λ l. legal (n * 256 + l)) ≡ twoOf n
 row n =
-    count-gap 129 127 (λ l. legal (n * 256 + l)) (λ i l. spare-illegal (n * 256 + (129 + i)) (ne-eqb (spare (n * 256 + (129 + i))) 0 (λ e. omega arith)))
-    ∙ ap (λ (k : ℕ). cond (legal (n * 256 + 128)) 1 0 + k)
-    (count-gap 1 127 (λ l. legal (n * 256 + l)) (λ i l. spare-illegal (n * 256 + (1 + i)) (ne-eqb (spare (n * 256 + (1 + i))) 0 (λ e. omega arith))))
+    count-gap 129 127 (λ l. legal (n * 256 + l)) (λ i l. spare-illegal (n * 256 + (129 + i)) (λ e. omega arith))
+    ∙ ap (λ (k : ℕ). cond (legal (n * 256 + 128)) 1 0 + k) (count-gap 1 127 (λ l. legal (n * 256 + l)) (λ i l. spare-illegal (n * 256 + (1 + i)) (λ e. omega arith)))
 
 abbrev countTwos : ℕ → ℕ
 countTwos zero = 0
@@ -173,6 +128,7 @@ rows zero = refl
 rows (suc n) = rw (row n, rows n)
 
 twos : countTwos 256 ≡ 25
+unfolding quadraticNamed otherNamed
 twos = refl
 
 pub twenty-five : countRows 256 ≡ 25

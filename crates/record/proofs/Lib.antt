@@ -5,3 +5,4 @@ pub mod Numbers
 pub mod Cells
 pub mod InRange
 pub mod Tags
+pub mod Named

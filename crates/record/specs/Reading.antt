@@ -1,8 +1,8 @@
 -- 01, Buffers and section records: a section from its tag and slots
-use Prim.Native.Nat.{ℕ, _*_, _/_, _%_}
+use Prim.Native.Nat.{ℕ, _*_}
 use mathlib.Core.Bool.{Bool, true, false, cond}
 use mathlib.Core.List.{List}
-use lib.Dec.{ltb, eqb}
+use lib.Dec.{ltb}
 use lib.Ieee.{Float, nan}
 use lib.ListN.{length, getD, take, drop}
 use Rattle.section.specs.declared.everywhere_constant.EverywhereConstant.{EverywhereConstant}
@@ -22,8 +22,12 @@ use Rattle.section.specs.declared.section.Section.the-variants as section
 use Rattle.section.specs.Combination as combination
 use Rattle.section.specs.QuadraticPart as quadraticPart
 use Rattle.section.specs.ConvexMonotonePart as convexPart
-use Rattle.numbers.specs.Sizes.{slotCount}
-use Rattle.record.specs.Tag.{spare}
+use Rattle.numbers.specs.Sizes.{fieldCount, slotCount}
+use Rattle.record.specs.Tag.{quadraticNamed, otherNamed}
+use Rattle.record.specs.declared.tag.QuadraticKind.{QuadraticKind}
+use Rattle.record.specs.declared.tag.QuadraticKind.the-variants as quadraticKind
+use Rattle.record.specs.declared.tag.OtherKind.{OtherKind}
+use Rattle.record.specs.declared.tag.OtherKind.the-variants as otherKind
 use Rattle.record.specs.declared.reading.QuadraticFound.{QuadraticFound}
 use Rattle.record.specs.declared.reading.QuadraticFound.the-variants as maybeQuadratic
 use Rattle.record.specs.declared.reading.OtherFound.{OtherFound}
@@ -99,26 +103,22 @@ quadraticMinIn split s = record {
 abbrev pub fourthMinIn : Bool → List Float → ConvexMonotone4Min
 fourthMinIn split s = record { base = fourthIn s; «split_region» = split; «x_ratio» = slot s 21; x2 = slot s 22; x3 = slot s 23 }
 
--- a part's code, with its split bit lowest
-unfoldable pub quadraticFrom : ℕ → List Float → QuadraticFound
-quadraticFrom code s =
-    cond (eqb code 0) maybeQuadratic.Absent
-    (cond (eqb code 2) (maybeQuadratic.Part (quadratic.Quadratic (quadraticIn s)))
-    (cond (eqb code 4) (maybeQuadratic.Part (quadratic.QuadraticMin (quadraticMinIn false s)))
-    (cond (eqb code 5) (maybeQuadratic.Part (quadratic.QuadraticMin (quadraticMinIn true s)))
-    maybeQuadratic.Unknown)))
+-- the part of each kind
+unfoldable pub quadraticFrom : QuadraticKind → List Float → QuadraticFound
+quadraticFrom quadraticKind.Absent s = maybeQuadratic.Absent
+quadraticFrom quadraticKind.Quadratic s = maybeQuadratic.Part (quadratic.Quadratic (quadraticIn s))
+quadraticFrom (quadraticKind.QuadraticMin split) s = maybeQuadratic.Part (quadratic.QuadraticMin (quadraticMinIn split s))
+quadraticFrom quadraticKind.Unknown s = maybeQuadratic.Unknown
 
-unfoldable pub otherFrom : ℕ → List Float → OtherFound
-otherFrom code s =
-    cond (eqb code 0) maybeOther.Absent
-    (cond (eqb code 2) (maybeOther.Constant (constantIn s))
-    (cond (eqb code 4) (maybeOther.Gradient (gradientIn s))
-    (cond (eqb code 6) (maybeOther.Convex (convex.ConvexMonotone2 (secondIn s)))
-    (cond (eqb code 8) (maybeOther.Convex (convex.ConvexMonotone3 (thirdIn s)))
-    (cond (eqb code 10) (maybeOther.Convex (convex.ConvexMonotone4 (fourthIn s)))
-    (cond (eqb code 12) (maybeOther.Convex (convex.ConvexMonotone4Min (fourthMinIn false s)))
-    (cond (eqb code 13) (maybeOther.Convex (convex.ConvexMonotone4Min (fourthMinIn true s)))
-    maybeOther.Unknown)))))))
+unfoldable pub otherFrom : OtherKind → List Float → OtherFound
+otherFrom otherKind.Absent s = maybeOther.Absent
+otherFrom otherKind.EverywhereConstant s = maybeOther.Constant (constantIn s)
+otherFrom otherKind.ConstantGrad s = maybeOther.Gradient (gradientIn s)
+otherFrom otherKind.ConvexMonotone2 s = maybeOther.Convex (convex.ConvexMonotone2 (secondIn s))
+otherFrom otherKind.ConvexMonotone3 s = maybeOther.Convex (convex.ConvexMonotone3 (thirdIn s))
+otherFrom otherKind.ConvexMonotone4 s = maybeOther.Convex (convex.ConvexMonotone4 (fourthIn s))
+otherFrom (otherKind.ConvexMonotone4Min split) s = maybeOther.Convex (convex.ConvexMonotone4Min (fourthMinIn split s))
+otherFrom otherKind.Unknown s = maybeOther.Unknown
 
 unfoldable pub joined : Float → QuadraticFound → OtherFound → Found
 joined w maybeQuadratic.Unknown o = found.Illegal
@@ -134,12 +134,10 @@ joined w (maybeQuadratic.Part q) (maybeOther.Gradient s) = found.Illegal
 joined w (maybeQuadratic.Part q) (maybeOther.Convex c) = found.Section (section.Combination (combination.new q c w))
 
 unfoldable pub readSection : ℕ → List Float → Found
-unfolding quadraticFrom otherFrom joined
+unfolding quadraticNamed otherNamed quadraticFrom otherFrom joined
 readSection tag s =
-    cond (ltb (length s) slotCount) found.Illegal
-    (cond (eqb (spare tag) 0)
-    (joined (slot s 0) (quadraticFrom (tag / 0x1000) s) (otherFrom (tag / 0x80 % 32) s))
-    found.Illegal)
+    cond (ltb (length s) fieldCount) found.Illegal
+    (joined (slot s 0) (quadraticFrom (quadraticNamed tag) s) (otherFrom (otherNamed tag) s))
 
 abbrev pub isSection : Found → Bool
 isSection (found.Section s) = true

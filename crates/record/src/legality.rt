@@ -1,60 +1,63 @@
 // Whether a record is legal, told by its tag: no slot is looked at.
-use numbers::SLOTS;
+use crate::tag::OtherKind;
+use crate::tag::QuadraticKind;
+use crate::tag::other_named;
+use crate::tag::quadratic_named;
+use numbers::FIELDS;
 ghost use mathlib.Core.Path.{_≡_};
 ghost use Rattle.record.specs.Reading.{isSection, readSection};
-ghost use Rattle.record.specs.Legal.{quadraticSort, otherSort, pairs};
+ghost use Rattle.record.specs.Legal.{alone, beside, pairs};
 
-// The sort of a part, by its code with the split bit lowest: none 0, one that goes alone 1, one that combines 2, unknown 3.
-fn quadratic_sort(code: u16) -> u8
-    ensures { λ r. ⌜ r ≡ quadraticSort code ⌝ }
+// Whether a part of this kind makes a section by itself.
+fn alone(other: OtherKind) -> bool
+    ensures { λ r. ⌜ r ≡ alone other ⌝ }
 {
-    match code {
-        0 => 0,
-        2 => 2,
-        4 => 2,
-        5 => 2,
-        _ => 3,
+    match other {
+        OtherKind::Absent => false,
+        OtherKind::EverywhereConstant => true,
+        OtherKind::ConstantGrad => true,
+        OtherKind::ConvexMonotone2 => true,
+        OtherKind::ConvexMonotone3 => true,
+        OtherKind::ConvexMonotone4 => true,
+        OtherKind::ConvexMonotone4Min(_) => true,
+        OtherKind::Unknown => false,
     }
 }
 
-fn other_sort(code: u16) -> u8
-    ensures { λ r. ⌜ r ≡ otherSort code ⌝ }
+// Whether it makes one beside a quadratic part.
+fn beside(other: OtherKind) -> bool
+    ensures { λ r. ⌜ r ≡ beside other ⌝ }
 {
-    match code {
-        0 => 0,
-        2 => 1,
-        4 => 1,
-        6 => 2,
-        8 => 2,
-        10 => 2,
-        12 => 2,
-        13 => 2,
-        _ => 3,
+    match other {
+        OtherKind::Absent => true,
+        OtherKind::EverywhereConstant => false,
+        OtherKind::ConstantGrad => false,
+        OtherKind::ConvexMonotone2 => true,
+        OtherKind::ConvexMonotone3 => true,
+        OtherKind::ConvexMonotone4 => true,
+        OtherKind::ConvexMonotone4Min(_) => true,
+        OtherKind::Unknown => false,
     }
 }
 
-// Whether parts of these sorts make a section.
-fn pairs(quadratic: u8, other: u8) -> bool
+// Whether parts of these kinds make a section.
+fn pairs(quadratic: QuadraticKind, other: OtherKind) -> bool
     ensures { λ r. ⌜ r ≡ pairs quadratic other ⌝ }
 {
-    if quadratic == 0 {
-        return other == 1 || other == 2;
+    match quadratic {
+        QuadraticKind::Absent => alone(other),
+        QuadraticKind::Quadratic => beside(other),
+        QuadraticKind::QuadraticMin(_) => beside(other),
+        QuadraticKind::Unknown => false,
     }
-    if quadratic == 2 {
-        return other == 0 || other == 2;
-    }
-    false
 }
 
 // Whether a record of this tag and these slots holds a section.
 pub fn legal_in(tag: u16, slots: &[f64]) -> bool
     ensures { λ r. ⌜ r ≡ isSection (readSection tag (now (slots .entry))) ⌝ }
 {
-    if slots.len() < SLOTS {
+    if slots.len() < FIELDS {
         return false;
     }
-    if tag % 0x80 != 0 {
-        return false;
-    }
-    pairs(quadratic_sort(tag / 0x1000), other_sort(tag / 0x80 % 32))
+    pairs(quadratic_named(tag), other_named(tag))
 }

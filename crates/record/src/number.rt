@@ -7,12 +7,16 @@ use crate::reading::quadratic_in;
 use crate::reading::quadratic_min_in;
 use crate::reading::second_in;
 use crate::reading::third_in;
-use numbers::SLOTS;
+use crate::tag::OtherKind;
+use crate::tag::QuadraticKind;
+use crate::tag::other_named;
+use crate::tag::quadratic_named;
+use numbers::FIELDS;
 ghost use mathlib.Core.Path.{_≡_};
 ghost use Prim.Native.Nat.{_≤_};
 ghost use lib.ListN.{length};
 ghost use Rattle.section.specs.Section.{value, primitive};
-ghost use Rattle.numbers.specs.Sizes.{slotCount};
+ghost use Rattle.numbers.specs.Sizes.{fieldCount};
 ghost use Rattle.record.specs.Reading.{quadraticFrom, otherFrom, readSection};
 ghost use Rattle.record.specs.Number.{answerIn, orZero, quadraticNumber, otherNumber, together};
 
@@ -42,64 +46,68 @@ pub enum Part {
     Unknown,
 }
 
-// The codes are those of the reading, with the split bit lowest. Prices and totals have a function each: nothing is left to be asked once the kind is known.
-fn quadratic_value(code: u16, slots: &[f64], q: f64) -> Part
-    requires { ⌜ slotCount ≤ length (now slots) ⌝ }
-    ensures { λ r. ⌜ r ≡ quadraticNumber (λ s. value s q) (quadraticFrom code (now (slots .entry))) ⌝ }
+// Prices and totals have a function each: nothing is left to be asked once the kind is known.
+fn quadratic_value(kind: QuadraticKind, slots: &[f64], q: f64) -> Part
+    requires { ⌜ fieldCount ≤ length (now slots) ⌝ }
+    ensures { λ r. ⌜ r ≡ quadraticNumber (λ s. value s q) (quadraticFrom kind (now (slots .entry))) ⌝ }
 {
-    match code {
-        0 => Part::Absent,
-        2 => Part::Shared(quadratic_in(slots).value(q)),
-        4 => Part::Shared(quadratic_min_in(false, slots).value(q)),
-        5 => Part::Shared(quadratic_min_in(true, slots).value(q)),
-        _ => Part::Unknown,
+    match kind {
+        QuadraticKind::Absent => Part::Absent,
+        QuadraticKind::Quadratic => Part::Shared(quadratic_in(slots).value(q)),
+        QuadraticKind::QuadraticMin(split) => {
+            Part::Shared(quadratic_min_in(split, slots).value(q))
+        }
+        QuadraticKind::Unknown => Part::Unknown,
     }
 }
 
-fn quadratic_primitive(code: u16, slots: &[f64], q: f64) -> Part
-    requires { ⌜ slotCount ≤ length (now slots) ⌝ }
-    ensures { λ r. ⌜ r ≡ quadraticNumber (λ s. primitive s q) (quadraticFrom code (now (slots .entry))) ⌝ }
+fn quadratic_primitive(kind: QuadraticKind, slots: &[f64], q: f64) -> Part
+    requires { ⌜ fieldCount ≤ length (now slots) ⌝ }
+    ensures { λ r. ⌜ r ≡ quadraticNumber (λ s. primitive s q) (quadraticFrom kind (now (slots .entry))) ⌝ }
 {
-    match code {
-        0 => Part::Absent,
-        2 => Part::Shared(quadratic_in(slots).primitive(q)),
-        4 => Part::Shared(quadratic_min_in(false, slots).primitive(q)),
-        5 => Part::Shared(quadratic_min_in(true, slots).primitive(q)),
-        _ => Part::Unknown,
+    match kind {
+        QuadraticKind::Absent => Part::Absent,
+        QuadraticKind::Quadratic => Part::Shared(quadratic_in(slots).primitive(q)),
+        QuadraticKind::QuadraticMin(split) => {
+            Part::Shared(quadratic_min_in(split, slots).primitive(q))
+        }
+        QuadraticKind::Unknown => Part::Unknown,
     }
 }
 
-fn other_value(code: u16, slots: &[f64], q: f64) -> Part
-    requires { ⌜ slotCount ≤ length (now slots) ⌝ }
-    ensures { λ r. ⌜ r ≡ otherNumber (λ s. value s q) (otherFrom code (now (slots .entry))) ⌝ }
+fn other_value(kind: OtherKind, slots: &[f64], q: f64) -> Part
+    requires { ⌜ fieldCount ≤ length (now slots) ⌝ }
+    ensures { λ r. ⌜ r ≡ otherNumber (λ s. value s q) (otherFrom kind (now (slots .entry))) ⌝ }
 {
-    match code {
-        0 => Part::Absent,
-        2 => Part::Alone(constant_in(slots).value(q)),
-        4 => Part::Alone(gradient_in(slots).value(q)),
-        6 => Part::Shared(second_in(slots).value(q)),
-        8 => Part::Shared(third_in(slots).value(q)),
-        10 => Part::Shared(fourth_in(slots).value(q)),
-        12 => Part::Shared(fourth_min_in(false, slots).value(q)),
-        13 => Part::Shared(fourth_min_in(true, slots).value(q)),
-        _ => Part::Unknown,
+    match kind {
+        OtherKind::Absent => Part::Absent,
+        OtherKind::EverywhereConstant => Part::Alone(constant_in(slots).value(q)),
+        OtherKind::ConstantGrad => Part::Alone(gradient_in(slots).value(q)),
+        OtherKind::ConvexMonotone2 => Part::Shared(second_in(slots).value(q)),
+        OtherKind::ConvexMonotone3 => Part::Shared(third_in(slots).value(q)),
+        OtherKind::ConvexMonotone4 => Part::Shared(fourth_in(slots).value(q)),
+        OtherKind::ConvexMonotone4Min(split) => {
+            Part::Shared(fourth_min_in(split, slots).value(q))
+        }
+        OtherKind::Unknown => Part::Unknown,
     }
 }
 
-fn other_primitive(code: u16, slots: &[f64], q: f64) -> Part
-    requires { ⌜ slotCount ≤ length (now slots) ⌝ }
-    ensures { λ r. ⌜ r ≡ otherNumber (λ s. primitive s q) (otherFrom code (now (slots .entry))) ⌝ }
+fn other_primitive(kind: OtherKind, slots: &[f64], q: f64) -> Part
+    requires { ⌜ fieldCount ≤ length (now slots) ⌝ }
+    ensures { λ r. ⌜ r ≡ otherNumber (λ s. primitive s q) (otherFrom kind (now (slots .entry))) ⌝ }
 {
-    match code {
-        0 => Part::Absent,
-        2 => Part::Alone(constant_in(slots).primitive(q)),
-        4 => Part::Alone(gradient_in(slots).primitive(q)),
-        6 => Part::Shared(second_in(slots).primitive(q)),
-        8 => Part::Shared(third_in(slots).primitive(q)),
-        10 => Part::Shared(fourth_in(slots).primitive(q)),
-        12 => Part::Shared(fourth_min_in(false, slots).primitive(q)),
-        13 => Part::Shared(fourth_min_in(true, slots).primitive(q)),
-        _ => Part::Unknown,
+    match kind {
+        OtherKind::Absent => Part::Absent,
+        OtherKind::EverywhereConstant => Part::Alone(constant_in(slots).primitive(q)),
+        OtherKind::ConstantGrad => Part::Alone(gradient_in(slots).primitive(q)),
+        OtherKind::ConvexMonotone2 => Part::Shared(second_in(slots).primitive(q)),
+        OtherKind::ConvexMonotone3 => Part::Shared(third_in(slots).primitive(q)),
+        OtherKind::ConvexMonotone4 => Part::Shared(fourth_in(slots).primitive(q)),
+        OtherKind::ConvexMonotone4Min(split) => {
+            Part::Shared(fourth_min_in(split, slots).primitive(q))
+        }
+        OtherKind::Unknown => Part::Unknown,
     }
 }
 
@@ -129,14 +137,11 @@ fn together(weight: f64, quadratic: Part, other: Part) -> Answer
 pub fn value_in(tag: u16, slots: &[f64], q: f64) -> Answer
     ensures { λ r. ⌜ r ≡ answerIn (λ s. value s q) (readSection tag (now (slots .entry))) ⌝ }
 {
-    if slots.len() < SLOTS {
+    if slots.len() < FIELDS {
         return Answer::Illegal;
     }
-    if tag % 0x80 != 0 {
-        return Answer::Illegal;
-    }
-    let quadratic = quadratic_value(tag / 0x1000, slots, q);
-    let other = other_value(tag / 0x80 % 32, slots, q);
+    let quadratic = quadratic_value(quadratic_named(tag), slots, q);
+    let other = other_value(other_named(tag), slots, q);
     together(slots[0], quadratic, other)
 }
 
@@ -144,13 +149,10 @@ pub fn value_in(tag: u16, slots: &[f64], q: f64) -> Answer
 pub fn primitive_in(tag: u16, slots: &[f64], q: f64) -> Answer
     ensures { λ r. ⌜ r ≡ answerIn (λ s. primitive s q) (readSection tag (now (slots .entry))) ⌝ }
 {
-    if slots.len() < SLOTS {
+    if slots.len() < FIELDS {
         return Answer::Illegal;
     }
-    if tag % 0x80 != 0 {
-        return Answer::Illegal;
-    }
-    let quadratic = quadratic_primitive(tag / 0x1000, slots, q);
-    let other = other_primitive(tag / 0x80 % 32, slots, q);
+    let quadratic = quadratic_primitive(quadratic_named(tag), slots, q);
+    let other = other_primitive(other_named(tag), slots, q);
     together(slots[0], quadratic, other)
 }

@@ -1,9 +1,13 @@
 // A section back from its tag and its slots.
+use crate::tag::OtherKind;
+use crate::tag::QuadraticKind;
+use crate::tag::other_named;
+use crate::tag::quadratic_named;
 use convex::convex_monotone2::ConvexMonotone2;
 use convex::convex_monotone3::ConvexMonotone3;
 use convex::convex_monotone4::ConvexMonotone4;
 use convex::convex_monotone4_min::ConvexMonotone4Min;
-use numbers::SLOTS;
+use numbers::FIELDS;
 use quadratic::quadratic::Quadratic;
 use quadratic::quadratic_min::QuadraticMin;
 use section::combination::Combination;
@@ -15,17 +19,17 @@ use section::section::Section;
 ghost use mathlib.Core.Path.{_≡_};
 ghost use Prim.Native.Nat.{_≤_};
 ghost use lib.ListN.{length};
-ghost use Rattle.numbers.specs.Sizes.{slotCount};
+ghost use Rattle.numbers.specs.Sizes.{fieldCount};
 ghost use Rattle.record.specs.Reading.{quadraticIn, quadraticMinIn, constantIn, gradientIn, secondIn, thirdIn, fourthIn, fourthMinIn, quadraticFrom, otherFrom, joined, readSection};
 
-// What a tag's code for the quadratic part stands for.
+// What a record holds of a quadratic part.
 pub enum QuadraticFound {
     Absent,
     Part(QuadraticPart),
     Unknown,
 }
 
-// What a tag's code for the other part stands for.
+// What it holds of the other part.
 pub enum OtherFound {
     Absent,
     Constant(EverywhereConstant),
@@ -40,7 +44,7 @@ pub enum Found {
 }
 
 pub(crate) fn quadratic_in(slots: &[f64]) -> Quadratic
-    requires { ⌜ slotCount ≤ length (now slots) ⌝ }
+    requires { ⌜ fieldCount ≤ length (now slots) ⌝ }
     ensures { λ r. ⌜ r ≡ quadraticIn (now (slots .entry)) ⌝ }
 {
     Quadratic {
@@ -55,7 +59,7 @@ pub(crate) fn quadratic_in(slots: &[f64]) -> Quadratic
 }
 
 pub(crate) fn quadratic_min_in(split_region: bool, slots: &[f64]) -> QuadraticMin
-    requires { ⌜ slotCount ≤ length (now slots) ⌝ }
+    requires { ⌜ fieldCount ≤ length (now slots) ⌝ }
     ensures { λ r. ⌜ r ≡ quadraticMinIn «split_region» (now (slots .entry)) ⌝ }
 {
     QuadraticMin {
@@ -76,7 +80,7 @@ pub(crate) fn quadratic_min_in(split_region: bool, slots: &[f64]) -> QuadraticMi
 }
 
 pub(crate) fn constant_in(slots: &[f64]) -> EverywhereConstant
-    requires { ⌜ slotCount ≤ length (now slots) ⌝ }
+    requires { ⌜ fieldCount ≤ length (now slots) ⌝ }
     ensures { λ r. ⌜ r ≡ constantIn (now (slots .entry)) ⌝ }
 {
     EverywhereConstant {
@@ -87,7 +91,7 @@ pub(crate) fn constant_in(slots: &[f64]) -> EverywhereConstant
 }
 
 pub(crate) fn gradient_in(slots: &[f64]) -> ConstantGrad
-    requires { ⌜ slotCount ≤ length (now slots) ⌝ }
+    requires { ⌜ fieldCount ≤ length (now slots) ⌝ }
     ensures { λ r. ⌜ r ≡ gradientIn (now (slots .entry)) ⌝ }
 {
     ConstantGrad {
@@ -100,7 +104,7 @@ pub(crate) fn gradient_in(slots: &[f64]) -> ConstantGrad
 }
 
 pub(crate) fn second_in(slots: &[f64]) -> ConvexMonotone2
-    requires { ⌜ slotCount ≤ length (now slots) ⌝ }
+    requires { ⌜ fieldCount ≤ length (now slots) ⌝ }
     ensures { λ r. ⌜ r ≡ secondIn (now (slots .entry)) ⌝ }
 {
     ConvexMonotone2 {
@@ -115,7 +119,7 @@ pub(crate) fn second_in(slots: &[f64]) -> ConvexMonotone2
 }
 
 pub(crate) fn third_in(slots: &[f64]) -> ConvexMonotone3
-    requires { ⌜ slotCount ≤ length (now slots) ⌝ }
+    requires { ⌜ fieldCount ≤ length (now slots) ⌝ }
     ensures { λ r. ⌜ r ≡ thirdIn (now (slots .entry)) ⌝ }
 {
     ConvexMonotone3 {
@@ -130,7 +134,7 @@ pub(crate) fn third_in(slots: &[f64]) -> ConvexMonotone3
 }
 
 pub(crate) fn fourth_in(slots: &[f64]) -> ConvexMonotone4
-    requires { ⌜ slotCount ≤ length (now slots) ⌝ }
+    requires { ⌜ fieldCount ≤ length (now slots) ⌝ }
     ensures { λ r. ⌜ r ≡ fourthIn (now (slots .entry)) ⌝ }
 {
     ConvexMonotone4 {
@@ -146,7 +150,7 @@ pub(crate) fn fourth_in(slots: &[f64]) -> ConvexMonotone4
 }
 
 pub(crate) fn fourth_min_in(split_region: bool, slots: &[f64]) -> ConvexMonotone4Min
-    requires { ⌜ slotCount ≤ length (now slots) ⌝ }
+    requires { ⌜ fieldCount ≤ length (now slots) ⌝ }
     ensures { λ r. ⌜ r ≡ fourthMinIn «split_region» (now (slots .entry)) ⌝ }
 {
     let base = fourth_in(slots);
@@ -159,40 +163,44 @@ pub(crate) fn fourth_min_in(split_region: bool, slots: &[f64]) -> ConvexMonotone
     }
 }
 
-// The code has its split bit lowest.
-fn quadratic_from(code: u16, slots: &[f64]) -> QuadraticFound
-    requires { ⌜ slotCount ≤ length (now slots) ⌝ }
-    ensures { λ r. ⌜ r ≡ quadraticFrom code (now (slots .entry)) ⌝ }
+// The part of a kind, out of its slots.
+fn quadratic_from(kind: QuadraticKind, slots: &[f64]) -> QuadraticFound
+    requires { ⌜ fieldCount ≤ length (now slots) ⌝ }
+    ensures { λ r. ⌜ r ≡ quadraticFrom kind (now (slots .entry)) ⌝ }
 {
-    match code {
-        0 => QuadraticFound::Absent,
-        2 => QuadraticFound::Part(QuadraticPart::Quadratic(quadratic_in(slots))),
-        4 => QuadraticFound::Part(QuadraticPart::QuadraticMin(quadratic_min_in(false, slots))),
-        5 => QuadraticFound::Part(QuadraticPart::QuadraticMin(quadratic_min_in(true, slots))),
-        _ => QuadraticFound::Unknown,
+    match kind {
+        QuadraticKind::Absent => QuadraticFound::Absent,
+        QuadraticKind::Quadratic => {
+            QuadraticFound::Part(QuadraticPart::Quadratic(quadratic_in(slots)))
+        }
+        QuadraticKind::QuadraticMin(split) => {
+            QuadraticFound::Part(QuadraticPart::QuadraticMin(quadratic_min_in(split, slots)))
+        }
+        QuadraticKind::Unknown => QuadraticFound::Unknown,
     }
 }
 
-fn other_from(code: u16, slots: &[f64]) -> OtherFound
-    requires { ⌜ slotCount ≤ length (now slots) ⌝ }
-    ensures { λ r. ⌜ r ≡ otherFrom code (now (slots .entry)) ⌝ }
+fn other_from(kind: OtherKind, slots: &[f64]) -> OtherFound
+    requires { ⌜ fieldCount ≤ length (now slots) ⌝ }
+    ensures { λ r. ⌜ r ≡ otherFrom kind (now (slots .entry)) ⌝ }
 {
-    match code {
-        0 => OtherFound::Absent,
-        2 => OtherFound::Constant(constant_in(slots)),
-        4 => OtherFound::Gradient(gradient_in(slots)),
-        6 => OtherFound::Convex(ConvexMonotonePart::ConvexMonotone2(second_in(slots))),
-        8 => OtherFound::Convex(ConvexMonotonePart::ConvexMonotone3(third_in(slots))),
-        10 => OtherFound::Convex(ConvexMonotonePart::ConvexMonotone4(fourth_in(slots))),
-        12 => OtherFound::Convex(ConvexMonotonePart::ConvexMonotone4Min(fourth_min_in(
-            false,
-            slots,
-        ))),
-        13 => OtherFound::Convex(ConvexMonotonePart::ConvexMonotone4Min(fourth_min_in(
-            true,
-            slots,
-        ))),
-        _ => OtherFound::Unknown,
+    match kind {
+        OtherKind::Absent => OtherFound::Absent,
+        OtherKind::EverywhereConstant => OtherFound::Constant(constant_in(slots)),
+        OtherKind::ConstantGrad => OtherFound::Gradient(gradient_in(slots)),
+        OtherKind::ConvexMonotone2 => {
+            OtherFound::Convex(ConvexMonotonePart::ConvexMonotone2(second_in(slots)))
+        }
+        OtherKind::ConvexMonotone3 => {
+            OtherFound::Convex(ConvexMonotonePart::ConvexMonotone3(third_in(slots)))
+        }
+        OtherKind::ConvexMonotone4 => {
+            OtherFound::Convex(ConvexMonotonePart::ConvexMonotone4(fourth_in(slots)))
+        }
+        OtherKind::ConvexMonotone4Min(split) => {
+            OtherFound::Convex(ConvexMonotonePart::ConvexMonotone4Min(fourth_min_in(split, slots)))
+        }
+        OtherKind::Unknown => OtherFound::Unknown,
     }
 }
 
@@ -227,13 +235,10 @@ fn joined(weight: f64, quadratic: QuadraticFound, other: OtherFound) -> Found
 pub fn read_section(tag: u16, slots: &[f64]) -> Found
     ensures { λ r. ⌜ r ≡ readSection tag (now (slots .entry)) ⌝ }
 {
-    if slots.len() < SLOTS {
+    if slots.len() < FIELDS {
         return Found::Illegal;
     }
-    if tag % 0x80 != 0 {
-        return Found::Illegal;
-    }
-    let quadratic = quadratic_from(tag / 0x1000, slots);
-    let other = other_from(tag / 0x80 % 32, slots);
+    let quadratic = quadratic_from(quadratic_named(tag), slots);
+    let other = other_from(other_named(tag), slots);
     joined(slots[0], quadratic, other)
 }

@@ -1,5 +1,5 @@
 // The slots of a record: the weight, then the quadratic part's fields, then the other part's.
-use numbers::SLOTS;
+use numbers::FIELDS;
 use section::convex_monotone_part::ConvexMonotonePart;
 use section::quadratic_part::QuadraticPart;
 use section::section::Section;
@@ -100,7 +100,7 @@ fn convex_slots(part: ConvexMonotonePart) -> [f64; 11]
     }
 }
 
-fn laid_out(weight: f64, q: [f64; 12], o: [f64; 11]) -> [f64; SLOTS]
+fn laid_out(weight: f64, q: [f64; 12], o: [f64; 11]) -> [f64; FIELDS]
     ensures { λ r. ⌜ r ≡ layout weight q o ⌝ }
 {
     [
@@ -132,7 +132,7 @@ fn laid_out(weight: f64, q: [f64; 12], o: [f64; 11]) -> [f64; SLOTS]
 }
 
 // The slots of a section's record; those that its kinds don't use hold +0.0.
-pub fn slots_of(section: Section) -> [f64; SLOTS]
+pub fn slots_of(section: Section) -> [f64; FIELDS]
     ensures { λ r. ⌜ r ≡ slotsOf section ⌝ }
 {
     let none = [0.0; 12];

@@ -1,18 +1,105 @@
-// A section's tag: which kinds it is made of, and whether they are split.
+// A section's tag: which kinds it is made of, and whether they are split. The codes of the kinds stand here alone, for the tag that is written and for
+// the one that is read.
 use section::convex_monotone_part::ConvexMonotonePart;
 use section::quadratic_part::QuadraticPart;
 use section::section::Section;
 ghost use mathlib.Core.Path.{_≡_};
-ghost use Rattle.record.specs.Tag.{quadraticTag, convexTag, tagOf};
+ghost use Rattle.record.specs.Tag.{quadraticNamed, otherNamed, quadraticTag, convexTag, tagOf};
+
+// The kind of the quadratic part; a Min kind with whether it is split. `Unknown` stands for a code, or a split bit, that has no meaning.
+pub enum QuadraticKind {
+    Absent,
+    Quadratic,
+    QuadraticMin(bool),
+    Unknown,
+}
+
+// The kind of the other part. A spare bit that is set makes it `Unknown`, too.
+pub enum OtherKind {
+    Absent,
+    EverywhereConstant,
+    ConstantGrad,
+    ConvexMonotone2,
+    ConvexMonotone3,
+    ConvexMonotone4,
+    ConvexMonotone4Min(bool),
+    Unknown,
+}
+
+// Where the codes and the split bits stand in a tag: what each is counted in.
+const QUADRATIC_CODE: u16 = 0x2000;
+
+const QUADRATIC_SPLIT: u16 = 0x1000;
+
+const OTHER_CODE: u16 = 0x0100;
+
+const OTHER_SPLIT: u16 = 0x0080;
+
+// The bits of each kind. A part that there is not has none.
+const ABSENT: u16 = 0;
+
+const QUADRATIC: u16 = QUADRATIC_CODE * 1;
+
+const QUADRATIC_MIN: u16 = QUADRATIC_CODE * 2;
+
+const QUADRATIC_MIN_SPLIT: u16 = QUADRATIC_MIN + QUADRATIC_SPLIT;
+
+const EVERYWHERE_CONSTANT: u16 = OTHER_CODE * 1;
+
+const CONSTANT_GRAD: u16 = OTHER_CODE * 2;
+
+const CONVEX_MONOTONE2: u16 = OTHER_CODE * 3;
+
+const CONVEX_MONOTONE3: u16 = OTHER_CODE * 4;
+
+const CONVEX_MONOTONE4: u16 = OTHER_CODE * 5;
+
+const CONVEX_MONOTONE4_MIN: u16 = OTHER_CODE * 6;
+
+const CONVEX_MONOTONE4_MIN_SPLIT: u16 = CONVEX_MONOTONE4_MIN + OTHER_SPLIT;
+
+// The kind of the quadratic part that a tag names, by the bits from its split on.
+pub(crate) fn quadratic_named(tag: u16) -> QuadraticKind
+    ensures { λ r. ⌜ r ≡ quadraticNamed tag ⌝ }
+{
+    match tag / QUADRATIC_SPLIT * QUADRATIC_SPLIT {
+        ABSENT => QuadraticKind::Absent,
+        QUADRATIC => QuadraticKind::Quadratic,
+        QUADRATIC_MIN => QuadraticKind::QuadraticMin(false),
+        QUADRATIC_MIN_SPLIT => QuadraticKind::QuadraticMin(true),
+        _ => QuadraticKind::Unknown,
+    }
+}
+
+// The kind of the other part, by all bits below those.
+pub(crate) fn other_named(tag: u16) -> OtherKind
+    ensures { λ r. ⌜ r ≡ otherNamed tag ⌝ }
+{
+    match tag % QUADRATIC_SPLIT {
+        ABSENT => OtherKind::Absent,
+        EVERYWHERE_CONSTANT => OtherKind::EverywhereConstant,
+        CONSTANT_GRAD => OtherKind::ConstantGrad,
+        CONVEX_MONOTONE2 => OtherKind::ConvexMonotone2,
+        CONVEX_MONOTONE3 => OtherKind::ConvexMonotone3,
+        CONVEX_MONOTONE4 => OtherKind::ConvexMonotone4,
+        CONVEX_MONOTONE4_MIN => OtherKind::ConvexMonotone4Min(false),
+        CONVEX_MONOTONE4_MIN_SPLIT => OtherKind::ConvexMonotone4Min(true),
+        _ => OtherKind::Unknown,
+    }
+}
 
 fn quadratic_tag(part: QuadraticPart) -> u16
     ensures { λ r. ⌜ r ≡ quadraticTag part ⌝ }
 {
     match part {
-        QuadraticPart::Quadratic(_) => 0x2000,
+        QuadraticPart::Quadratic(_) => QUADRATIC,
         QuadraticPart::QuadraticMin(s) => {
             let split = s.split_region;
-            if split { 0x5000 } else { 0x4000 }
+            if split {
+                QUADRATIC_MIN_SPLIT
+            } else {
+                QUADRATIC_MIN
+            }
         }
     }
 }
@@ -21,12 +108,16 @@ fn convex_tag(part: ConvexMonotonePart) -> u16
     ensures { λ r. ⌜ r ≡ convexTag part ⌝ }
 {
     match part {
-        ConvexMonotonePart::ConvexMonotone2(_) => 0x0300,
-        ConvexMonotonePart::ConvexMonotone3(_) => 0x0400,
-        ConvexMonotonePart::ConvexMonotone4(_) => 0x0500,
+        ConvexMonotonePart::ConvexMonotone2(_) => CONVEX_MONOTONE2,
+        ConvexMonotonePart::ConvexMonotone3(_) => CONVEX_MONOTONE3,
+        ConvexMonotonePart::ConvexMonotone4(_) => CONVEX_MONOTONE4,
         ConvexMonotonePart::ConvexMonotone4Min(s) => {
             let split = s.split_region;
-            if split { 0x0680 } else { 0x0600 }
+            if split {
+                CONVEX_MONOTONE4_MIN_SPLIT
+            } else {
+                CONVEX_MONOTONE4_MIN
+            }
         }
     }
 }
@@ -36,13 +127,13 @@ pub fn tag_of(section: Section) -> u16
     ensures { λ r. ⌜ r ≡ tagOf section ⌝ }
 {
     match section {
-        Section::EverywhereConstant(_) => 0x0100,
-        Section::ConstantGrad(_) => 0x0200,
-        Section::ConvexMonotone2(s) => convex_tag(ConvexMonotonePart::ConvexMonotone2(s)),
-        Section::ConvexMonotone3(s) => convex_tag(ConvexMonotonePart::ConvexMonotone3(s)),
-        Section::ConvexMonotone4(s) => convex_tag(ConvexMonotonePart::ConvexMonotone4(s)),
+        Section::EverywhereConstant(_) => EVERYWHERE_CONSTANT,
+        Section::ConstantGrad(_) => CONSTANT_GRAD,
+        Section::ConvexMonotone2(_) => CONVEX_MONOTONE2,
+        Section::ConvexMonotone3(_) => CONVEX_MONOTONE3,
+        Section::ConvexMonotone4(_) => CONVEX_MONOTONE4,
         Section::ConvexMonotone4Min(s) => convex_tag(ConvexMonotonePart::ConvexMonotone4Min(s)),
-        Section::Quadratic(s) => quadratic_tag(QuadraticPart::Quadratic(s)),
+        Section::Quadratic(_) => QUADRATIC,
         Section::QuadraticMin(s) => quadratic_tag(QuadraticPart::QuadraticMin(s)),
         Section::Combination(s) => {
             let quadratic = s.quadratic_helper;

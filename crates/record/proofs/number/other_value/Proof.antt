@@ -1,9 +1,8 @@
--- `number::other_value` meets its contract.
+-- `number::other_value` meets its contract: in each arm the kind is known.
+use borrow.Author.Needs.{needs}
 use Rattle.section.specs.Section.{value}
 use Rattle.record.specs.Reading.{otherFrom}
 use Rattle.record.specs.Number.{otherNumber}
-use borrow.Author.Tests.{ne-eqb}
-use borrow.Author.Needs.{needs}
 use Rattle.record.proofs.number.other_value.Statement.{statement}
 use Rattle.record.proofs.number.other_value.Tie as tie
 
@@ -12,19 +11,19 @@ unfolding otherFrom otherNumber value
 other-value-spec =
     tie.close
     (tie.spec
-    (λ c κs. search needs) (λ c κs. search needs)
-    (λ c κs. search needs) (λ c κs. search needs)
-    (λ c κs. search needs) (λ c κs. search needs)
-    (λ c κs. search needs) (λ c κs. search needs)
-    (λ c κs. search needs) (λ c κs. search needs)
-    (λ c κs. search needs) (λ c κs. search needs)
-    (λ c κs. search needs) (λ c κs. search needs)
-    (λ c. rw (c .match .keys1))
-    (λ c. rw (c .before .before .match .keys2, c .value .ensures, c .before .constant-in .ensures))
-    (λ c. rw (c .before .before .match .keys3, c .value2 .ensures, c .before .gradient-in .ensures))
-    (λ c. rw (c .before .before .match .keys4, c .value3 .ensures, c .before .second-in .ensures))
-    (λ c. rw (c .before .before .match .keys5, c .value4 .ensures, c .before .third-in .ensures))
-    (λ c. rw (c .before .before .match .keys6, c .value5 .ensures, c .before .fourth-in .ensures))
-    (λ c. rw (c .before .before .match .keys7, c .value6 .ensures, c .before .fourth-min-in .ensures))
-    (λ c. rw (c .before .before .match .keys8, c .value7 .ensures, c .before .fourth-min-in2 .ensures))
-    (λ c. let r = c .match .rest in simp (ne-eqb _ _ (r .0 .0 .0 .0 .0 .0 .0 .1), ne-eqb _ _ (r .0 .0 .0 .0 .0 .0 .1), ne-eqb _ _ (r .0 .0 .0 .0 .0 .1), ne-eqb _ _ (r .0 .0 .0 .0 .1), ne-eqb _ _ (r .0 .0 .0 .1), ne-eqb _ _ (r .0 .0 .1), ne-eqb _ _ (r .0 .1), ne-eqb _ _ (r .1))))
+    (λ c. search needs)
+    (λ c. search needs) (λ c κs. search needs) (λ c κs. search needs)
+    (λ c. search needs) (λ c κs. search needs) (λ c κs. search needs)
+    (λ c. search needs) (λ c κs. search needs) (λ c κs. search needs)
+    (λ c. search needs) (λ c κs. search needs) (λ c κs. search needs)
+    (λ c. search needs) (λ c κs. search needs) (λ c κs. search needs)
+    (λ c. search needs) (λ c κs. search needs) (λ c κs. search needs)
+    (λ c. search needs)
+    (λ c. rw (c .enum-told .given .1))
+    (λ c. rw (c .before .before .enum-told2 .given .1, c .value .ensures, c .before .constant-in .ensures))
+    (λ c. rw (c .before .before .enum-told3 .given .1, c .value2 .ensures, c .before .gradient-in .ensures))
+    (λ c. rw (c .before .before .enum-told4 .given .1, c .value3 .ensures, c .before .second-in .ensures))
+    (λ c. rw (c .before .before .enum-told5 .given .1, c .value4 .ensures, c .before .third-in .ensures))
+    (λ c. rw (c .before .before .enum-told6 .given .1, c .value5 .ensures, c .before .fourth-in .ensures))
+    (λ c. rw (c .before .before .before .kind .given .1, c .value6 .ensures, c .before .fourth-min-in .ensures))
+    (λ c. rw (c .enum-told7 .given .1)))

@@ -20,4 +20,4 @@ together-spec =
     (λ c. rw (c .before .before .before .quadratic .given .1, c .enum-told6 .given .1))
     (λ c. rw (c .before .before .before .quadratic .given .1, c .enum-told7 .given .1))
     (λ c. rw (c .before .before .before .quadratic .given .1, c .enum-told8 .given .1))
-    (λ c. rw (c .before .before .before .before .quadratic .given .1, c .before .other3 .given .1)))
+    (λ c. let o = c .before in rw (o .before .before .before .quadratic .given .1, o .other3 .given .1)))

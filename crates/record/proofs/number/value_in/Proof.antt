@@ -1,7 +1,6 @@
 -- `number::value_in` meets its contract.
-use mathlib.Core.Path.{_∙_}
 use borrow.Author.Needs.{needs}
-use Rattle.record.proofs.Numbers.{value-weighs, short-answers, spare-answers, parts-answer}
+use Rattle.record.proofs.Numbers.{value-weighs, short-answers, parts-answer}
 use Rattle.record.proofs.number.value_in.Statement.{statement}
 use Rattle.record.proofs.number.value_in.Tie as tie
 
@@ -10,9 +9,11 @@ value-in-spec =
     tie.close
     (tie.spec
     (λ c. short-answers _ _ _ (c .if1 .taken))
-    (λ c. spare-answers _ _ _ (c .before .if1 .left) (c .if2 .taken))
-    (λ c κs. search needs) (λ c κs. search needs) (λ c. search needs) (λ c κs. search needs)
+    (λ c κs. search needs) (λ c κs. search needs) (λ c κs. search needs) (λ c κs. search needs) (λ c. search needs) (λ c κs. search needs)
     (λ c.
-    c .together .ensures
-    ∙ rw (c .before .before .before .quadratic-value .ensures, c .before .before .other-value .ensures)
-    (parts-answer _ _ _ (value-weighs _) (c .before .before .before .before .before .if1 .left) (c .before .before .before .before .if2 .left))))
+    let o = c .before .before in
+    let p = o .before .before in
+    parts-answer _ _ _ (value-weighs _) (p .before .before .if1 .left)
+    (p .before .quadratic-named .ensures) (p .quadratic-value .ensures)
+    (o .before .other-named .ensures) (o .other-value .ensures)
+    (c .together .ensures)))

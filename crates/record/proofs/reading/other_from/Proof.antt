@@ -1,7 +1,6 @@
--- `reading::other_from` meets its contract.
-use Rattle.record.specs.Reading.{otherFrom}
-use borrow.Author.Tests.{ne-eqb}
+-- `reading::other_from` meets its contract: in each arm the kind is known.
 use borrow.Author.Needs.{needs}
+use Rattle.record.specs.Reading.{otherFrom}
 use Rattle.record.proofs.reading.other_from.Statement.{statement}
 use Rattle.record.proofs.reading.other_from.Tie as tie
 
@@ -10,13 +9,13 @@ unfolding otherFrom
 other-from-spec =
     tie.close
     (tie.spec
-    (λ c κs. search needs) (λ c κs. search needs) (λ c κs. search needs) (λ c κs. search needs) (λ c κs. search needs) (λ c κs. search needs) (λ c κs. search needs)
-    (λ c. rw (c .match .keys1))
-    (λ c. rw (c .before .match .keys2, c .constant-in .ensures))
-    (λ c. rw (c .before .match .keys3, c .gradient-in .ensures))
-    (λ c. rw (c .before .match .keys4, c .second-in .ensures))
-    (λ c. rw (c .before .match .keys5, c .third-in .ensures))
-    (λ c. rw (c .before .match .keys6, c .fourth-in .ensures))
-    (λ c. rw (c .before .match .keys7, c .fourth-min-in .ensures))
-    (λ c. rw (c .before .match .keys8, c .fourth-min-in2 .ensures))
-    (λ c. let r = c .match .rest in simp (ne-eqb _ _ (r .0 .0 .0 .0 .0 .0 .0 .1), ne-eqb _ _ (r .0 .0 .0 .0 .0 .0 .1), ne-eqb _ _ (r .0 .0 .0 .0 .0 .1), ne-eqb _ _ (r .0 .0 .0 .0 .1), ne-eqb _ _ (r .0 .0 .0 .1), ne-eqb _ _ (r .0 .0 .1), ne-eqb _ _ (r .0 .1), ne-eqb _ _ (r .1))))
+    (λ c. search needs) (λ c. search needs) (λ c κs. search needs) (λ c. search needs) (λ c κs. search needs) (λ c. search needs) (λ c κs. search needs)
+    (λ c. search needs) (λ c κs. search needs) (λ c. search needs) (λ c κs. search needs) (λ c. search needs) (λ c κs. search needs) (λ c. search needs)
+    (λ c. rw (c .enum-told .given .1))
+    (λ c. rw (c .before .enum-told2 .given .1, c .constant-in .ensures))
+    (λ c. rw (c .before .enum-told3 .given .1, c .gradient-in .ensures))
+    (λ c. rw (c .before .enum-told4 .given .1, c .second-in .ensures))
+    (λ c. rw (c .before .enum-told5 .given .1, c .third-in .ensures))
+    (λ c. rw (c .before .enum-told6 .given .1, c .fourth-in .ensures))
+    (λ c. rw (c .before .before .kind .given .1, c .fourth-min-in .ensures))
+    (λ c. rw (c .enum-told7 .given .1)))

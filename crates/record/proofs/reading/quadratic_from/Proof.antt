@@ -1,7 +1,6 @@
--- `reading::quadratic_from` meets its contract.
-use Rattle.record.specs.Reading.{quadraticFrom}
-use borrow.Author.Tests.{ne-eqb}
+-- `reading::quadratic_from` meets its contract: in each arm the kind is known.
 use borrow.Author.Needs.{needs}
+use Rattle.record.specs.Reading.{quadraticFrom}
 use Rattle.record.proofs.reading.quadratic_from.Statement.{statement}
 use Rattle.record.proofs.reading.quadratic_from.Tie as tie
 
@@ -10,9 +9,8 @@ unfolding quadraticFrom
 quadratic-from-spec =
     tie.close
     (tie.spec
-    (λ c κs. search needs) (λ c κs. search needs) (λ c κs. search needs)
-    (λ c. rw (c .match .keys1))
-    (λ c. rw (c .before .match .keys2, c .quadratic-in .ensures))
-    (λ c. rw (c .before .match .keys3, c .quadratic-min-in .ensures))
-    (λ c. rw (c .before .match .keys4, c .quadratic-min-in2 .ensures))
-    (λ c. let r = c .match .rest in simp (ne-eqb _ _ (r .0 .0 .0 .1), ne-eqb _ _ (r .0 .0 .1), ne-eqb _ _ (r .0 .1), ne-eqb _ _ (r .1))))
+    (λ c. search needs) (λ c. search needs) (λ c κs. search needs) (λ c. search needs) (λ c κs. search needs) (λ c. search needs)
+    (λ c. rw (c .enum-told .given .1))
+    (λ c. rw (c .before .enum-told2 .given .1, c .quadratic-in .ensures))
+    (λ c. rw (c .before .before .kind .given .1, c .quadratic-min-in .ensures))
+    (λ c. rw (c .enum-told3 .given .1)))

@@ -1,7 +1,7 @@
 -- `reading::read_section` meets its contract.
 use mathlib.Core.Path.{_∙_}
 use borrow.Author.Needs.{needs}
-use borrow.Author.Tests.{lt-ltb, le-ltb, eq-eqb, ne-eqb}
+use borrow.Author.Tests.{lt-ltb, le-ltb}
 use Rattle.record.specs.Reading.{readSection}
 use Rattle.record.proofs.reading.read_section.Statement.{statement}
 use Rattle.record.proofs.reading.read_section.Tie as tie
@@ -12,8 +12,9 @@ read-section-spec =
     tie.close
     (tie.spec
     (λ c. simp (lt-ltb _ _ (c .if1 .taken)))
-    (λ c. simp (le-ltb _ _ (c .before .if1 .left), ne-eqb _ _ (c .if2 .taken)))
-    (λ c κs. search needs) (λ c κs. search needs) (λ c. search needs) (λ c κs. search needs)
+    (λ c κs. search needs) (λ c κs. search needs) (λ c κs. search needs) (λ c κs. search needs) (λ c. search needs) (λ c κs. search needs)
     (λ c.
-    simp (le-ltb _ _ (c .before .before .before .before .before .if1 .left), eq-eqb _ _ (c .before .before .before .before .if2 .left))
-    (c .joined .ensures ∙ rw (c .before .before .before .quadratic-from .ensures, c .before .before .other-from .ensures))))
+    let o = c .before .before in
+    let p = o .before .before in
+    simp (le-ltb _ _ (p .before .before .if1 .left))
+    (c .joined .ensures ∙ rw (p .quadratic-from .ensures, p .before .quadratic-named .ensures, o .other-from .ensures, o .before .other-named .ensures))))

@@ -36,4 +36,4 @@ slots-of-spec =
     (λ c. rw (c .before .before .before .section6 .given .1, ← (c .before .convex-slots4 .ensures)) (c .laid-out6 .ensures))
     (λ c. rw (c .before .before .before .section7 .given .1) (c .laid-out7 .ensures ∙ alone (c .before .quadratic-slots .ensures)))
     (λ c. rw (c .before .before .before .section8 .given .1) (c .laid-out8 .ensures ∙ alone (c .before .quadratic-slots2 .ensures)))
-    (λ c. rw (c .before .before .before .before .section9 .given .1) (c .laid-out9 .ensures ∙ same (c .before .before .quadratic-slots3 .ensures) (c .before .convex-slots5 .ensures))))
+    (λ c. let q = c .before .before in rw (q .before .before .section9 .given .1) (c .laid-out9 .ensures ∙ same (q .quadratic-slots3 .ensures) (c .before .convex-slots5 .ensures))))
