@@ -2,3 +2,4 @@ pub mod Choice
 pub mod QuadraticPart
 pub mod ConvexPart
 pub mod Regions
+pub mod Steps

@@ -1,7 +1,6 @@
 -- 01, Choosing a section: step 2.
 use mathlib.Core.Bool.{Bool, cond, _&&_}
-use lib.Ieee.{Float, lt}
-use Rattle.numbers.specs.Words.{zero}
+use lib.Ieee.{Float}
 use Rattle.section.specs.declared.quadratic_part.QuadraticPart.{QuadraticPart}
 use Rattle.section.specs.declared.quadratic_part.QuadraticPart.the-variants as part
 use Rattle.quadratic.specs.Quadratic as quadratic
@@ -25,8 +24,3 @@ minKind method P N = method .«force_positive» && minFits P N
 
 abbrev pub quadraticPart : ConvexMonotone → Period → Float → Float → QuadraticPart
 quadraticPart method period P N = made period (minKind method P N)
-
--- step 3: the kind in the first region, also where step 2 made no quadratic part
-unfoldable pub firstKind : ConvexMonotone → Float → Float → Bool
-unfolding minKind
-firstKind method P N = cond (lt zero (method .quadraticity)) (minKind method P N) (method .«force_positive»)

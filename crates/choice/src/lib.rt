@@ -17,7 +17,7 @@ use section::section::Section;
 use table::method::ConvexMonotone;
 ghost use mathlib.Core.Path.{_≡_};
 ghost use Rattle.choice.specs.Choice.{sectionOf, shaped, mixed};
-ghost use Rattle.choice.specs.QuadraticPart.{firstKind};
+ghost use Rattle.choice.specs.Steps.{firstKind};
 
 // Any settings are taken. Those outside [0, 1] a build refuses beforehand, so for them the original has no answer to match: a
 // quadraticity below 0.0 counts as 0.0, and one above 1.0 or a NaN as 1.0.

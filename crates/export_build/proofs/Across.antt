@@ -31,9 +31,8 @@ use Rattle.sheets.specs.declared.sheet.SheetBuilt.{SheetBuilt}
 use Rattle.sheets.specs.declared.sheet.SheetBuilt.the-variants as sheet-built
 use Rattle.sheets.specs.declared.sheet.SheetEnd.{SheetEnd}
 use Rattle.table.specs.declared.ends.End.{End}
-use Rattle.export_build.specs.Building.{CurveAcross, noAnswer, shortRefusal, countLeft, tailLeft, curveAcross, lastRefusal}
-use Rattle.export_build.specs.InSheets.{lastCut}
-use Rattle.export_build.specs.Growing.{lastGrowth}
+use Rattle.export_build.specs.Building.{CurveAcross, noAnswer, shortRefusal, countLeft, tailLeft, curveAcross}
+use Rattle.export_build.specs.Steps.{lastRefusal, lastCut, lastGrowth}
 use Rattle.export_build.specs.OneSheet as one-sheet
 
 -- room for one number and for three

@@ -7,8 +7,6 @@ use lib.Ieee.{Float}
 use lib.ListN.{length, set}
 use Rattle.refusal.specs.Refusal.{number}
 use Rattle.refusal.specs.declared.Refusal.the-variants.{BufferTooShort}
-use Rattle.refusal.specs.declared.Verdict.{Verdict}
-use Rattle.refusal.specs.declared.Verdict.the-variants as verdict
 use Rattle.table.specs.Buffers.{Buffers, Outcome, buffers}
 use Rattle.table.specs.declared.ends.Seam.{Seam}
 use Rattle.table.specs.declared.ends.Seam.the-variants as seam
@@ -55,8 +53,3 @@ curveAcross b sections tail o =
     cond (noAnswer (length sections) (length tail))
     (record { refusal = shortRefusal (o .answer); buffers = b; sections = sections; tail = tail })
     (record { refusal = curveInNumbers (o .answer) .refusal; buffers = o .buffers; sections = countLeft (o .answer) sections; tail = tailLeft (o .answer) tail })
-
--- steps of the code: what a check says where an answer's slice is too short
-abbrev pub lastRefusal : Verdict → ℕ
-lastRefusal verdict.Accepted = number BufferTooShort
-lastRefusal (verdict.Refused r) = number r

@@ -1,4 +1,4 @@
 pub mod Building
-pub mod InSheets
 pub mod Growing
 pub mod OneSheet
+pub mod Steps

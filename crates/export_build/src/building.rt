@@ -13,7 +13,8 @@ ghost use Rattle.table.specs.Buffers.{buffers};
 ghost use Rattle.table.specs.Method.{new};
 ghost use Rattle.curve.specs.Build.{buildOutcome};
 ghost use Rattle.curve.specs.Curve.{curveInNumbers};
-ghost use Rattle.export_build.specs.Building.{seamOf, across, noAnswer, countLeft, tailLeft, curveAcross, lastRefusal};
+ghost use Rattle.export_build.specs.Building.{seamOf, across, noAnswer, countLeft, tailLeft, curveAcross};
+ghost use Rattle.export_build.specs.Steps.{lastRefusal};
 
 // A seam across the boundary: whether there is one, its count and its node.
 fn seam_of(seamed: bool, count: usize, node: f64) -> Seam

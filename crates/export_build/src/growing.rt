@@ -18,7 +18,8 @@ ghost use Rattle.table.specs.Method.{new};
 ghost use Rattle.curve.specs.Build.{buildTests};
 ghost use Rattle.growth.specs.Growth.{carriedAt, growOutcome};
 ghost use Rattle.export_build.specs.Building.{across, curveAcross};
-ghost use Rattle.export_build.specs.Growing.{previousOf, lastGrowth};
+ghost use Rattle.export_build.specs.Growing.{previousOf};
+ghost use Rattle.export_build.specs.Steps.{lastGrowth};
 
 // What growth reads of the previous curve beside its records. It asks for no price, so the tail is not needed.
 fn previous_of(given: bool, sections: usize, held: bool) -> Previous

@@ -16,7 +16,7 @@ ghost use Rattle.table.specs.Method.{new};
 ghost use Rattle.curve.specs.Build.{buildTests};
 ghost use Rattle.sheets.specs.InSheets.{cutsFit, inSheetsOutcome};
 ghost use Rattle.export_build.specs.Building.{across, curveAcross};
-ghost use Rattle.export_build.specs.InSheets.{lastCut};
+ghost use Rattle.export_build.specs.Steps.{lastCut};
 
 // The first refusal of a table in sheets for buffers of these lengths, where its answers have no room.
 fn cut_refusal(

@@ -62,6 +62,3 @@ module _ (o : List ℕ) where
 
   abbrev pub averages : List Float
   averages = listOf points (λ i. numberAt o (20 + 8 * points + 8 * i))
-
-  abbrev pub queryAt : ℕ → Float
-  queryAt k = numberAt o (20 + 16 * points + 8 * k)

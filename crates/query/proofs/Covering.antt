@@ -33,7 +33,7 @@ use Rattle.query.specs.declared.answer.QueryAnswer.the-variants as query
 use Rattle.query.specs.declared.answer.Covered.{Covered}
 use Rattle.query.proofs.Walk.{place-le}
 use Rattle.query.specs.declared.number.Wanted.{Wanted}
-use Rattle.query.specs.Number.{figure}
+use Rattle.query.specs.Steps.{figure}
 use Rattle.query.specs.Many.{verdictOf, firstRefused, answerAt}
 
 -- ---- the first refusal of many

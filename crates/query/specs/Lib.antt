@@ -1,4 +1,3 @@
 pub mod Many
-pub mod Number
 pub mod Query
 pub mod Steps

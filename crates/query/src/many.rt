@@ -23,7 +23,7 @@ ghost use Rattle.refusal.specs.Refusal.{first};
 ghost use Rattle.refusal.specs.declared.Verdict.the-variants.{Accepted};
 ghost use Rattle.numbers.specs.OneOutcome.{pair};
 ghost use Rattle.query.specs.Query.{curveTests, covering, coveredAt};
-ghost use Rattle.query.specs.Number.{figure};
+ghost use Rattle.query.specs.Steps.{figure};
 ghost use Rattle.query.specs.Many.{verdictOf, queriesVerdict, manyVerdict, answersAfter, manyOutcome};
 
 fn legal_at(tags: &[u16], slots: &[f64], i: usize) -> bool

@@ -12,7 +12,7 @@ ghost use Rattle.numbers.specs.Sizes.{slotCount};
 ghost use Rattle.record.specs.Number.{answerIn};
 ghost use Rattle.record.specs.Reading.{recordAt};
 ghost use Rattle.query.specs.Query.{tailSection};
-ghost use Rattle.query.specs.Number.{figure};
+ghost use Rattle.query.specs.Steps.{figure};
 
 // What is asked at a point.
 pub(crate) enum Wanted {

@@ -16,7 +16,7 @@ ghost use Rattle.refusal.specs.Refusal.{first};
 ghost use Rattle.refusal.specs.declared.Verdict.the-variants.{Accepted};
 ghost use Rattle.record.specs.Number.{answerIn};
 ghost use Rattle.query.specs.Query.{curveTests, covering, coveredAt, ask};
-ghost use Rattle.query.specs.Number.{figure};
+ghost use Rattle.query.specs.Steps.{figure};
 
 // What the section that covers a query answers. From the last knot on no record is read.
 fn covering_number(

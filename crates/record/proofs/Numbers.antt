@@ -28,7 +28,8 @@ use Rattle.record.specs.declared.tag.OtherKind.{OtherKind}
 use Rattle.numbers.specs.Sizes.{fieldCount}
 use Rattle.record.specs.Tag.{quadraticNamed, otherNamed}
 use Rattle.record.specs.Reading.{slot, quadraticFrom, otherFrom, joined, readSection}
-use Rattle.record.specs.Number.{answerIn, quadraticNumber, otherNumber, together}
+use Rattle.record.specs.Number.{answerIn}
+use Rattle.record.specs.Steps.{quadraticNumber, otherNumber, together}
 
 -- a combination's number is its parts' numbers, weighted
 abbrev Weighed : (Section → Float) → QuadraticPart → ConvexMonotonePart → Float → Type 0

@@ -4,3 +4,4 @@ pub mod Number
 pub mod Tag
 pub mod Slots
 pub mod Reader
+pub mod Steps

@@ -18,7 +18,8 @@ ghost use lib.ListN.{length};
 ghost use Rattle.section.specs.Section.{value, primitive};
 ghost use Rattle.numbers.specs.Sizes.{fieldCount};
 ghost use Rattle.record.specs.Reading.{quadraticFrom, otherFrom, readSection};
-ghost use Rattle.record.specs.Number.{answerIn, orZero, quadraticNumber, otherNumber, together};
+ghost use Rattle.record.specs.Number.{answerIn, orZero};
+ghost use Rattle.record.specs.Steps.{quadraticNumber, otherNumber, together};
 
 // What a record answers.
 pub enum Answer {

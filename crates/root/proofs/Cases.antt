@@ -12,7 +12,7 @@ use Rattle.numbers.specs.Words.{zero, finite}
 use Rattle.numbers.proofs.Ways.{never}
 use Rattle.numbers.proofs.Signs.{zero-is-zero, nonzero-is-not, minus-is-below, plus-is-not-below}
 use Rattle.root.specs.Root.{root, inUnits}
-use Rattle.root.specs.Bits.{rootBits, unitsOfBits}
+use Rattle.root.specs.Steps.{rootBits, unitsOfBits}
 use Rattle.root.proofs.Units.{Fit, fit, Parts, parts-of, units-high, k-high, bits-are, units-of-bits}
 use Rattle.root.proofs.Result.{result, result-number}
 

@@ -13,7 +13,7 @@ use lib.Ieee.{Float, fin, binary64, ofBits, ofFields, odd, minus, nanBits, size}
 use lib.Ieee.Bits.{nanBits-above}
 use lib.Ieee.Digits.{size-le}
 use Rattle.root.specs.Root.{nearestRoot, scaled, pairs, rootOf}
-use Rattle.root.specs.Bits.{rootBits}
+use Rattle.root.specs.Steps.{rootBits}
 use Rattle.root.proofs.Isqrt.{Near, nearest-near, digits-low, digits-high}
 use Rattle.root.proofs.Units.{Parts}
 use Rattle.numbers.proofs.Ways.{lt-or-le}

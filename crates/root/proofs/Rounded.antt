@@ -14,7 +14,7 @@ use lib.Ieee.Exact.{HasValue, odd-sign}
 use lib.Ieee.Fits.{down-pos}
 use Rattle.numbers.proofs.Ways.{never}
 use Rattle.root.specs.Root.{root, rootOf, nearestRoot, scaled, pairs, inUnits}
-use Rattle.root.specs.Bits.{rootBits}
+use Rattle.root.specs.Steps.{rootBits}
 use Rattle.root.specs.Nearest.{AsDocumented, unitsOf, YsSide}
 use Rattle.root.proofs.Powers.{four-pow}
 use Rattle.root.proofs.Units.{Fit, fit, place, parts-of, units-high}

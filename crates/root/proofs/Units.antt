@@ -13,7 +13,7 @@ use lib.Ieee.{Float, fin, binary64, up, down, size, fits, toBits}
 use lib.Ieee.Digits.{size-le, size-lt, size-reaches}
 use lib.Ieee.Fits.{and-l, and-r, kept-lt, down-pos}
 use Rattle.root.specs.Root.{inUnits}
-use Rattle.root.specs.Bits.{unitsOfBits}
+use Rattle.root.specs.Steps.{unitsOfBits}
 use Rattle.root.proofs.Powers.{pow-le-back}
 use Rattle.numbers.proofs.Ways.{lt-or-le}
 

@@ -1,3 +1,3 @@
 pub mod Root
-pub mod Bits
+pub mod Steps
 pub mod Nearest

@@ -3,7 +3,7 @@ ghost use mathlib.Core.Path.{_≡_};
 ghost use mathlib.Core.Logic.{_⊎_};
 ghost use Prim.Native.Nat.{_+_, _*_, _/_, _%_, _^_, _≤_, _<_};
 ghost use Rattle.root.specs.Root.{root, nearestRoot};
-ghost use Rattle.root.specs.Bits.{rootBits, unitsOfBits};
+ghost use Rattle.root.specs.Steps.{rootBits, unitsOfBits};
 
 // The whole number nearest to the square root of s * 2^52. Each turn takes two more binary digits of that number, the next pair standing on
 // top of `left`, and finds one more of its root: root * root + rest is always the number made of the digits taken so far.

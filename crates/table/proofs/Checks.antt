@@ -14,7 +14,8 @@ use Rattle.numbers.specs.Words.{finite}
 use Rattle.numbers.proofs.Every.{and-split, all-none, all-every, all-at}
 use Rattle.numbers.proofs.Ways.{lt-or-le}
 use Rattle.table.specs.Table.{at}
-use Rattle.table.specs.Check.{allFinite, rising, endsFinite}
+use Rattle.table.specs.Check.{allFinite, rising}
+use Rattle.table.specs.Steps.{endsFinite}
 
 -- no pair, so none that falls
 pub rising-short : (xs : List Float) → length xs < 2 → rising xs ≡ true

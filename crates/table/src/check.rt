@@ -10,7 +10,8 @@ ghost use mathlib.Core.List.{[], _∷_};
 ghost use Prim.Native.Nat.{_≤_};
 ghost use lib.ListN.{length};
 ghost use Rattle.refusal.specs.Refusal.{first};
-ghost use Rattle.table.specs.Check.{allFinite, rising, endsFinite, knotsOf, inUnit, seamTooLong, noRoom, tableTests, seamTest, roomTests};
+ghost use Rattle.table.specs.Check.{allFinite, rising, knotsOf, inUnit, seamTooLong, noRoom, tableTests, seamTest, roomTests};
+ghost use Rattle.table.specs.Steps.{endsFinite};
 
 // No test in these loops leaves early: a table that is refused is rare, and a loop that always runs to its end goes several numbers at a time.
 fn all_finite(xs: &[f64]) -> bool

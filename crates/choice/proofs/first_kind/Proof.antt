@@ -1,6 +1,6 @@
 -- `first_kind` meets its contract: each return by the tests that led to it.
 use borrow.Author.Needs.{needs}
-use Rattle.choice.specs.QuadraticPart.{firstKind}
+use Rattle.choice.specs.Steps.{firstKind}
 use Rattle.choice.proofs.first_kind.Statement.{statement}
 use Rattle.choice.proofs.first_kind.Tie as tie
 

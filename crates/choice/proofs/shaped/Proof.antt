@@ -8,7 +8,8 @@ use Rattle.section.specs.declared.section.Section.{Section}
 use Rattle.section.specs.QuadraticPart as quadratic
 use Rattle.table.specs.declared.method.ConvexMonotone.{ConvexMonotone}
 use Rattle.choice.specs.declared.period.Period.{Period}
-use Rattle.choice.specs.QuadraticPart.{made, minKind, firstKind}
+use Rattle.choice.specs.QuadraticPart.{made, minKind}
+use Rattle.choice.specs.Steps.{firstKind}
 use Rattle.choice.specs.Choice.{shaped, firstRegion}
 use Rattle.choice.proofs.shaped.Statement.{statement}
 use Rattle.choice.proofs.shaped.Tie as tie

@@ -7,7 +7,7 @@ use mathlib.Core.Path.{_≡_, refl, ap, _∙_}
 use borrow.Author.Needs.{needs}
 use Rattle.numbers.proofs.Nan.{same-number}
 use Rattle.root.specs.Root.{nearestRoot, scaled, pairs}
-use Rattle.root.specs.Bits.{rootBits}
+use Rattle.root.specs.Steps.{rootBits}
 use Rattle.root.proofs.Scaling.{full-pairs, full-scaled, full-small}
 use Rattle.root.proofs.Units.{normal-units}
 use Rattle.root.proofs.normal.Statement.{statement}

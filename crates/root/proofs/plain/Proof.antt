@@ -5,7 +5,7 @@ use native.Mathlib.Nat.{mul-one}
 use mathlib.Core.Path.{_≡_}
 use borrow.Author.Needs.{needs}
 use borrow.Author.Tests.{lt-ltb, le-ltb}
-use Rattle.root.specs.Bits.{unitsOfBits}
+use Rattle.root.specs.Steps.{unitsOfBits}
 use Rattle.root.proofs.plain.Statement.{statement}
 use Rattle.root.proofs.plain.Tie as tie
 

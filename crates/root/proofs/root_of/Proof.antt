@@ -5,7 +5,7 @@ use mathlib.Core.Path.{_≡_, ap, _∙_}
 use borrow.Author.Needs.{needs}
 use lib.Count.{leadingZeros}
 use Rattle.root.specs.Root.{nearestRoot, scaled}
-use Rattle.root.specs.Bits.{rootBits}
+use Rattle.root.specs.Steps.{rootBits}
 use Rattle.root.proofs.Isqrt.{nearest-small}
 use Rattle.root.proofs.Scaling.{Placed, placed, pairs-are, handed-lt, handed-is, scaled-range}
 use Rattle.root.proofs.root_of.Statement.{statement}

@@ -12,7 +12,7 @@ use Rattle.table.specs.Table.{at}
 use Rattle.query.specs.Query.{coveredAt}
 use Rattle.query.proofs.Answers.{Reaches, reached}
 use Rattle.query.proofs.Walk.{place-le}
-use Rattle.query.specs.Number.{figure}
+use Rattle.query.specs.Steps.{figure}
 use Rattle.query.specs.Many.{verdictOf, answerAt}
 use Rattle.query.proofs.Covering.{all-accepted, tail-told, place-told}
 use Rattle.query.proofs.many.fill.Statement.{statement}

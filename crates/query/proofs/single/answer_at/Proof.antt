@@ -7,7 +7,7 @@ use Rattle.section.specs.declared.section.Section.{Section}
 use Rattle.refusal.specs.Refusal.{first}
 use Rattle.refusal.specs.declared.Verdict.the-variants.{Accepted}
 use Rattle.query.specs.Query.{queryTests, covering}
-use Rattle.query.specs.Number.{figure}
+use Rattle.query.specs.Steps.{figure}
 use Rattle.query.proofs.Covering.{answered, not-answered, of-the-curve}
 use Rattle.query.proofs.single.answer_at.Statement.{statement}
 use Rattle.query.proofs.single.answer_at.Tie as tie

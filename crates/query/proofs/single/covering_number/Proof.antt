@@ -9,7 +9,7 @@ use Rattle.record.specs.Reading.{recordAt}
 use Rattle.record.specs.declared.number.Answer.the-variants as answer
 use Rattle.query.proofs.Answers.{Reaches, reached}
 use Rattle.query.proofs.Walk.{place-le}
-use Rattle.query.specs.Number.{figure}
+use Rattle.query.specs.Steps.{figure}
 use Rattle.query.proofs.Covering.{from-the-last, before-the-last}
 use Rattle.query.proofs.single.covering_number.Statement.{statement}
 use Rattle.query.proofs.single.covering_number.Tie as tie

@@ -2,7 +2,7 @@
 use borrow.Author.Needs.{needs}
 use Rattle.section.specs.Section.{value}
 use Rattle.record.specs.Reading.{otherFrom}
-use Rattle.record.specs.Number.{otherNumber}
+use Rattle.record.specs.Steps.{otherNumber}
 use Rattle.record.proofs.number.other_value.Statement.{statement}
 use Rattle.record.proofs.number.other_value.Tie as tie
 

@@ -2,7 +2,7 @@
 use borrow.Author.Needs.{needs}
 use Rattle.section.specs.Section.{value}
 use Rattle.record.specs.Reading.{quadraticFrom}
-use Rattle.record.specs.Number.{quadraticNumber}
+use Rattle.record.specs.Steps.{quadraticNumber}
 use Rattle.record.proofs.number.quadratic_value.Statement.{statement}
 use Rattle.record.proofs.number.quadratic_value.Tie as tie
 

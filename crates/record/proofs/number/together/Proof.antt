@@ -1,5 +1,5 @@
 -- `number::together` meets its contract: in each arm both parts are known.
-use Rattle.record.specs.Number.{together}
+use Rattle.record.specs.Steps.{together}
 use borrow.Author.Needs.{needs}
 use Rattle.record.proofs.number.together.Statement.{statement}
 use Rattle.record.proofs.number.together.Tie as tie

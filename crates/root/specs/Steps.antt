@@ -1,4 +1,4 @@
--- What the private functions of `root` answer, over whole numbers.
+-- Steps of the code, which only the contracts of private functions cite: what they answer, over whole numbers.
 use Prim.Native.Nat.{ℕ, _+_, _-_, _*_, _/_, _^_}
 use mathlib.Core.Bool.{cond}
 use lib.Dec.{ltb}
