@@ -1,4 +1,4 @@
-// Which section a query lies in, without a walk over the knots.
+// Which section a query lies in: strides come close to it, and a short walk over the inner knots ends at it.
 ghost use mathlib.Core.Path.{_≡_};
 ghost use mathlib.Core.Bool.{true};
 ghost use mathlib.Core.Logic.{_⊎_};
@@ -49,7 +49,26 @@ fn stride(xs: &[f64], q: f64, from: usize, end: usize, step: usize) -> usize
     at
 }
 
-// The place that the walk finds, in three strides of at most 15 steps: of 256, of 16 and of 1.
+// The place from one that is at or before it: the first inner knot above the query ends it, and where there is none it is the last section.
+fn walk_from(xs: &[f64], q: f64, from: usize) -> usize
+    requires { ⌜ (from ≤ placeOf (now xs) q) × (2 ≤ length (now xs)) × (length (now xs) ≤ 4096) × (rising (now xs) ≡ true) ⌝ }
+    ensures { λ r. ⌜ r ≡ placeOf (now (xs .entry)) q ⌝ }
+{
+    let last = xs.len() - 2;
+    let mut i = from;
+    let at = loop {
+        if last <= i {
+            break i;
+        }
+        if q < xs[i + 1] {
+            break i;
+        }
+        i += 1;
+    };
+    at
+}
+
+// The place that the walk finds: three strides of at most 15 steps, of 256, of 16 and of 2, leave it a step or none to go.
 pub(crate) fn search(xs: &[f64], q: f64) -> usize
     requires { ⌜ (2 ≤ length (now xs)) × (length (now xs) ≤ 4096) × (rising (now xs) ≡ true) ⌝ }
     ensures { λ r. ⌜ r ≡ placeOf (now (xs .entry)) q ⌝ }
@@ -57,7 +76,7 @@ pub(crate) fn search(xs: &[f64], q: f64) -> usize
     let end = xs.len() - 1;
     let far = stride(xs, q, 0, end, 256);
     let near = stride(xs, q, far, least(far + 256, end), 16);
-    stride(xs, q, near, least(near + 16, end), 1)
+    walk_from(xs, q, stride(xs, q, near, least(near + 16, end), 2))
 }
 
 // The same, where it is likely to be `near` or the place after: queries that rise take a step each.

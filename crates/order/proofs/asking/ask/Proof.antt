@@ -16,7 +16,7 @@ returns c =
     let f : Section → Float = λ s. value s (a .q) in
     let g : Section → Float = λ s. primitive s (a .q) in
     let k = coveredAt (a .xs .now) (a .curve) (a .tags .now) (a .slots .now) (a .q) in
-    none f g k _ _ _ (c .before .before .before .before .value .ensures) (c .before .before .enum-told .given .1) (c .wide .ensures ∙ ap (λ (t : AnswerInNumbers). t .refusal) (c .before .told .ensures))
+    none f g k _ _ _ (c .before .before .before .before .value .ensures) (c .before .before .enum-told .given .1) (c .wide .ensures ∙ ap (λ (t : AnswerInNumbers). t .refusal) (c .before .in-numbers .ensures))
 
 returns-2 : tie.Need-returns-2
 returns-2 c =

@@ -1,4 +1,4 @@
--- `place::search` meets its contract: the last stride leaves less than one step.
+-- `place::search` meets its contract: each stride is not past the place, and the walk ends at it.
 use Prim.Native.Nat.{ℕ, _+_, _<_}
 use native.Mathlib.Omega.{arith}
 use mathlib.Core.Logic.{_⊎_, ⊎-elim}
@@ -35,4 +35,5 @@ search-spec =
     let p = c .before .before .before .before .before .pre in
     let r = c .least2 .ensures in
     (c .before .stride2 .ensures .0, before _ _ _ _ (c .before .stride2 .ensures .1) (omega (arith, p .0, place-le (a .xs .now) (a .q))) (r .2), omega (arith, p .0, r .1), p .1, omega arith, omega arith, p .2))
-    (λ c. omega (arith, c .stride3 .ensures .0, c .stride3 .ensures .1)))
+    (λ c κs. let p = c .before .before .before .before .before .before .pre in (c .stride3 .ensures .0, p .0, p .1, p .2))
+    (λ c. c .walk-from .ensures))
