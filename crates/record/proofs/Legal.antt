@@ -35,7 +35,8 @@ module _ (w : Float) (s : List Float) where
   alone-joined otherKind.ConvexMonotone2 = refl
   alone-joined otherKind.ConvexMonotone3 = refl
   alone-joined otherKind.ConvexMonotone4 = refl
-  alone-joined (otherKind.ConvexMonotone4Min b) = refl
+  alone-joined otherKind.ConvexMonotone4Min = refl
+  alone-joined otherKind.ConvexMonotone4MinSplit = refl
   alone-joined otherKind.Unknown = refl
 
   beside-joined : (p : QuadraticPart) (o : OtherKind) → isSection (joined w (maybeQuadratic.Part p) (otherFrom o s)) ≡ beside o
@@ -46,14 +47,16 @@ module _ (w : Float) (s : List Float) where
   beside-joined p otherKind.ConvexMonotone2 = refl
   beside-joined p otherKind.ConvexMonotone3 = refl
   beside-joined p otherKind.ConvexMonotone4 = refl
-  beside-joined p (otherKind.ConvexMonotone4Min b) = refl
+  beside-joined p otherKind.ConvexMonotone4Min = refl
+  beside-joined p otherKind.ConvexMonotone4MinSplit = refl
   beside-joined p otherKind.Unknown = refl
 
   pairs-joined : (q : QuadraticKind) (o : OtherKind) → isSection (joined w (quadraticFrom q s) (otherFrom o s)) ≡ pairs q o
   unfolding joined quadraticFrom
   pairs-joined quadraticKind.Absent o = alone-joined o
   pairs-joined quadraticKind.Quadratic o = beside-joined (quadratic.Quadratic (quadraticIn s)) o
-  pairs-joined (quadraticKind.QuadraticMin b) o = beside-joined (quadratic.QuadraticMin (quadraticMinIn b s)) o
+  pairs-joined quadraticKind.QuadraticMin o = beside-joined (quadratic.QuadraticMin (quadraticMinIn false s)) o
+  pairs-joined quadraticKind.QuadraticMinSplit o = beside-joined (quadratic.QuadraticMin (quadraticMinIn true s)) o
   pairs-joined quadraticKind.Unknown o = refl
 
 -- a tag is read as a section exactly where document 01 calls it legal
@@ -84,7 +87,8 @@ spare t = t % 2 ^ 7
 unknown-illegal : (q : QuadraticKind) → pairs q otherKind.Unknown ≡ false
 unknown-illegal quadraticKind.Absent = refl
 unknown-illegal quadraticKind.Quadratic = refl
-unknown-illegal (quadraticKind.QuadraticMin b) = refl
+unknown-illegal quadraticKind.QuadraticMin = refl
+unknown-illegal quadraticKind.QuadraticMinSplit = refl
 unknown-illegal quadraticKind.Unknown = refl
 
 spare-unknown : (t : ℕ) → (spare t ≡ 0 → ⊥) → otherNamed t ≡ otherKind.Unknown

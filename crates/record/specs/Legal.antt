@@ -15,7 +15,8 @@ alone otherKind.ConstantGrad = true
 alone otherKind.ConvexMonotone2 = true
 alone otherKind.ConvexMonotone3 = true
 alone otherKind.ConvexMonotone4 = true
-alone (otherKind.ConvexMonotone4Min split) = true
+alone otherKind.ConvexMonotone4Min = true
+alone otherKind.ConvexMonotone4MinSplit = true
 alone otherKind.Unknown = false
 
 -- with one, there need not be another, and it is of no constant kind
@@ -26,13 +27,15 @@ beside otherKind.ConstantGrad = false
 beside otherKind.ConvexMonotone2 = true
 beside otherKind.ConvexMonotone3 = true
 beside otherKind.ConvexMonotone4 = true
-beside (otherKind.ConvexMonotone4Min split) = true
+beside otherKind.ConvexMonotone4Min = true
+beside otherKind.ConvexMonotone4MinSplit = true
 beside otherKind.Unknown = false
 
 abbrev pub pairs : QuadraticKind → OtherKind → Bool
 pairs quadraticKind.Absent o = alone o
 pairs quadraticKind.Quadratic o = beside o
-pairs (quadraticKind.QuadraticMin split) o = beside o
+pairs quadraticKind.QuadraticMin o = beside o
+pairs quadraticKind.QuadraticMinSplit o = beside o
 pairs quadraticKind.Unknown o = false
 
 -- a code that is not named, a split bit of another kind and a spare bit make a kind unknown

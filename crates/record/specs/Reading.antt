@@ -107,7 +107,8 @@ fourthMinIn split s = record { base = fourthIn s; «split_region» = split; «x_
 unfoldable pub quadraticFrom : QuadraticKind → List Float → QuadraticFound
 quadraticFrom quadraticKind.Absent s = maybeQuadratic.Absent
 quadraticFrom quadraticKind.Quadratic s = maybeQuadratic.Part (quadratic.Quadratic (quadraticIn s))
-quadraticFrom (quadraticKind.QuadraticMin split) s = maybeQuadratic.Part (quadratic.QuadraticMin (quadraticMinIn split s))
+quadraticFrom quadraticKind.QuadraticMin s = maybeQuadratic.Part (quadratic.QuadraticMin (quadraticMinIn false s))
+quadraticFrom quadraticKind.QuadraticMinSplit s = maybeQuadratic.Part (quadratic.QuadraticMin (quadraticMinIn true s))
 quadraticFrom quadraticKind.Unknown s = maybeQuadratic.Unknown
 
 unfoldable pub otherFrom : OtherKind → List Float → OtherFound
@@ -117,7 +118,8 @@ otherFrom otherKind.ConstantGrad s = maybeOther.Gradient (gradientIn s)
 otherFrom otherKind.ConvexMonotone2 s = maybeOther.Convex (convex.ConvexMonotone2 (secondIn s))
 otherFrom otherKind.ConvexMonotone3 s = maybeOther.Convex (convex.ConvexMonotone3 (thirdIn s))
 otherFrom otherKind.ConvexMonotone4 s = maybeOther.Convex (convex.ConvexMonotone4 (fourthIn s))
-otherFrom (otherKind.ConvexMonotone4Min split) s = maybeOther.Convex (convex.ConvexMonotone4Min (fourthMinIn split s))
+otherFrom otherKind.ConvexMonotone4Min s = maybeOther.Convex (convex.ConvexMonotone4Min (fourthMinIn false s))
+otherFrom otherKind.ConvexMonotone4MinSplit s = maybeOther.Convex (convex.ConvexMonotone4Min (fourthMinIn true s))
 otherFrom otherKind.Unknown s = maybeOther.Unknown
 
 unfoldable pub joined : Float → QuadraticFound → OtherFound → Found

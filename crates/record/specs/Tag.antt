@@ -31,7 +31,8 @@ otherField code split = code * 2 ^ 8 + bit split * 2 ^ 7
 abbrev pub quadraticBits : QuadraticKind → ℕ
 quadraticBits quadraticKind.Absent = quadraticField 0 false
 quadraticBits quadraticKind.Quadratic = quadraticField 1 false
-quadraticBits (quadraticKind.QuadraticMin split) = quadraticField 2 split
+quadraticBits quadraticKind.QuadraticMin = quadraticField 2 false
+quadraticBits quadraticKind.QuadraticMinSplit = quadraticField 2 true
 quadraticBits quadraticKind.Unknown = quadraticField 0 false
 
 abbrev pub otherBits : OtherKind → ℕ
@@ -41,7 +42,8 @@ otherBits otherKind.ConstantGrad = otherField 2 false
 otherBits otherKind.ConvexMonotone2 = otherField 3 false
 otherBits otherKind.ConvexMonotone3 = otherField 4 false
 otherBits otherKind.ConvexMonotone4 = otherField 5 false
-otherBits (otherKind.ConvexMonotone4Min split) = otherField 6 split
+otherBits otherKind.ConvexMonotone4Min = otherField 6 false
+otherBits otherKind.ConvexMonotone4MinSplit = otherField 6 true
 otherBits otherKind.Unknown = otherField 0 false
 
 -- of some kinds the one whose bits these are, else d
@@ -51,7 +53,7 @@ kindWith d bits (k ∷ ks) n = cond (eqb n (bits k)) k (kindWith d bits ks n)
 
 abbrev pub quadraticKinds : List QuadraticKind
 quadraticKinds =
-    quadraticKind.Absent ∷ quadraticKind.Quadratic ∷ quadraticKind.QuadraticMin false ∷ quadraticKind.QuadraticMin true ∷ []
+    quadraticKind.Absent ∷ quadraticKind.Quadratic ∷ quadraticKind.QuadraticMin ∷ quadraticKind.QuadraticMinSplit ∷ []
 
 abbrev pub otherKinds : List OtherKind
 otherKinds =
@@ -61,8 +63,8 @@ otherKinds =
     ∷ otherKind.ConvexMonotone2
     ∷ otherKind.ConvexMonotone3
     ∷ otherKind.ConvexMonotone4
-    ∷ otherKind.ConvexMonotone4Min false
-    ∷ otherKind.ConvexMonotone4Min true
+    ∷ otherKind.ConvexMonotone4Min
+    ∷ otherKind.ConvexMonotone4MinSplit
     ∷ []
 
 -- the kinds that a tag names: by its upper 4 bits, and by all others, those to spare among them
@@ -75,13 +77,13 @@ otherNamed tag = kindWith otherKind.Unknown otherBits otherKinds (tag % 2 ^ 12)
 -- the tag of a section, the other way
 unfoldable pub quadraticTag : QuadraticPart → ℕ
 quadraticTag (quadratic.Quadratic s) = quadraticBits quadraticKind.Quadratic
-quadraticTag (quadratic.QuadraticMin s) = quadraticBits (quadraticKind.QuadraticMin (s .«split_region»))
+quadraticTag (quadratic.QuadraticMin s) = cond (s .«split_region») (quadraticBits quadraticKind.QuadraticMinSplit) (quadraticBits quadraticKind.QuadraticMin)
 
 unfoldable pub convexTag : ConvexMonotonePart → ℕ
 convexTag (convex.ConvexMonotone2 s) = otherBits otherKind.ConvexMonotone2
 convexTag (convex.ConvexMonotone3 s) = otherBits otherKind.ConvexMonotone3
 convexTag (convex.ConvexMonotone4 s) = otherBits otherKind.ConvexMonotone4
-convexTag (convex.ConvexMonotone4Min s) = otherBits (otherKind.ConvexMonotone4Min (s .«split_region»))
+convexTag (convex.ConvexMonotone4Min s) = cond (s .«split_region») (otherBits otherKind.ConvexMonotone4MinSplit) (otherBits otherKind.ConvexMonotone4Min)
 
 unfoldable pub tagOf : Section → ℕ
 unfolding quadraticTag convexTag

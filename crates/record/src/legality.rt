@@ -19,7 +19,8 @@ fn alone(other: OtherKind) -> bool
         OtherKind::ConvexMonotone2 => true,
         OtherKind::ConvexMonotone3 => true,
         OtherKind::ConvexMonotone4 => true,
-        OtherKind::ConvexMonotone4Min(_) => true,
+        OtherKind::ConvexMonotone4Min => true,
+        OtherKind::ConvexMonotone4MinSplit => true,
         OtherKind::Unknown => false,
     }
 }
@@ -35,7 +36,8 @@ fn beside(other: OtherKind) -> bool
         OtherKind::ConvexMonotone2 => true,
         OtherKind::ConvexMonotone3 => true,
         OtherKind::ConvexMonotone4 => true,
-        OtherKind::ConvexMonotone4Min(_) => true,
+        OtherKind::ConvexMonotone4Min => true,
+        OtherKind::ConvexMonotone4MinSplit => true,
         OtherKind::Unknown => false,
     }
 }
@@ -47,7 +49,8 @@ fn pairs(quadratic: QuadraticKind, other: OtherKind) -> bool
     match quadratic {
         QuadraticKind::Absent => alone(other),
         QuadraticKind::Quadratic => beside(other),
-        QuadraticKind::QuadraticMin(_) => beside(other),
+        QuadraticKind::QuadraticMin => beside(other),
+        QuadraticKind::QuadraticMinSplit => beside(other),
         QuadraticKind::Unknown => false,
     }
 }

@@ -55,9 +55,8 @@ fn quadratic_value(kind: QuadraticKind, slots: &[f64], q: f64) -> Part
     match kind {
         QuadraticKind::Absent => Part::Absent,
         QuadraticKind::Quadratic => Part::Shared(quadratic_in(slots).value(q)),
-        QuadraticKind::QuadraticMin(split) => {
-            Part::Shared(quadratic_min_in(split, slots).value(q))
-        }
+        QuadraticKind::QuadraticMin => Part::Shared(quadratic_min_in(false, slots).value(q)),
+        QuadraticKind::QuadraticMinSplit => Part::Shared(quadratic_min_in(true, slots).value(q)),
         QuadraticKind::Unknown => Part::Unknown,
     }
 }
@@ -69,9 +68,10 @@ fn quadratic_primitive(kind: QuadraticKind, slots: &[f64], q: f64) -> Part
     match kind {
         QuadraticKind::Absent => Part::Absent,
         QuadraticKind::Quadratic => Part::Shared(quadratic_in(slots).primitive(q)),
-        QuadraticKind::QuadraticMin(split) => {
-            Part::Shared(quadratic_min_in(split, slots).primitive(q))
-        }
+        QuadraticKind::QuadraticMin => Part::Shared(quadratic_min_in(false, slots).primitive(q)),
+        QuadraticKind::QuadraticMinSplit => Part::Shared(quadratic_min_in(true, slots).primitive(
+            q,
+        )),
         QuadraticKind::Unknown => Part::Unknown,
     }
 }
@@ -87,9 +87,8 @@ fn other_value(kind: OtherKind, slots: &[f64], q: f64) -> Part
         OtherKind::ConvexMonotone2 => Part::Shared(second_in(slots).value(q)),
         OtherKind::ConvexMonotone3 => Part::Shared(third_in(slots).value(q)),
         OtherKind::ConvexMonotone4 => Part::Shared(fourth_in(slots).value(q)),
-        OtherKind::ConvexMonotone4Min(split) => {
-            Part::Shared(fourth_min_in(split, slots).value(q))
-        }
+        OtherKind::ConvexMonotone4Min => Part::Shared(fourth_min_in(false, slots).value(q)),
+        OtherKind::ConvexMonotone4MinSplit => Part::Shared(fourth_min_in(true, slots).value(q)),
         OtherKind::Unknown => Part::Unknown,
     }
 }
@@ -105,9 +104,8 @@ fn other_primitive(kind: OtherKind, slots: &[f64], q: f64) -> Part
         OtherKind::ConvexMonotone2 => Part::Shared(second_in(slots).primitive(q)),
         OtherKind::ConvexMonotone3 => Part::Shared(third_in(slots).primitive(q)),
         OtherKind::ConvexMonotone4 => Part::Shared(fourth_in(slots).primitive(q)),
-        OtherKind::ConvexMonotone4Min(split) => {
-            Part::Shared(fourth_min_in(split, slots).primitive(q))
-        }
+        OtherKind::ConvexMonotone4Min => Part::Shared(fourth_min_in(false, slots).primitive(q)),
+        OtherKind::ConvexMonotone4MinSplit => Part::Shared(fourth_min_in(true, slots).primitive(q)),
         OtherKind::Unknown => Part::Unknown,
     }
 }

@@ -173,8 +173,11 @@ fn quadratic_from(kind: QuadraticKind, slots: &[f64]) -> QuadraticFound
         QuadraticKind::Quadratic => {
             QuadraticFound::Part(QuadraticPart::Quadratic(quadratic_in(slots)))
         }
-        QuadraticKind::QuadraticMin(split) => {
-            QuadraticFound::Part(QuadraticPart::QuadraticMin(quadratic_min_in(split, slots)))
+        QuadraticKind::QuadraticMin => {
+            QuadraticFound::Part(QuadraticPart::QuadraticMin(quadratic_min_in(false, slots)))
+        }
+        QuadraticKind::QuadraticMinSplit => {
+            QuadraticFound::Part(QuadraticPart::QuadraticMin(quadratic_min_in(true, slots)))
         }
         QuadraticKind::Unknown => QuadraticFound::Unknown,
     }
@@ -197,8 +200,11 @@ fn other_from(kind: OtherKind, slots: &[f64]) -> OtherFound
         OtherKind::ConvexMonotone4 => {
             OtherFound::Convex(ConvexMonotonePart::ConvexMonotone4(fourth_in(slots)))
         }
-        OtherKind::ConvexMonotone4Min(split) => {
-            OtherFound::Convex(ConvexMonotonePart::ConvexMonotone4Min(fourth_min_in(split, slots)))
+        OtherKind::ConvexMonotone4Min => {
+            OtherFound::Convex(ConvexMonotonePart::ConvexMonotone4Min(fourth_min_in(false, slots)))
+        }
+        OtherKind::ConvexMonotone4MinSplit => {
+            OtherFound::Convex(ConvexMonotonePart::ConvexMonotone4Min(fourth_min_in(true, slots)))
         }
         OtherKind::Unknown => OtherFound::Unknown,
     }

@@ -6,11 +6,13 @@ use section::section::Section;
 ghost use mathlib.Core.Path.{_≡_};
 ghost use Rattle.record.specs.Tag.{quadraticNamed, otherNamed, quadraticTag, convexTag, tagOf};
 
-// The kind of the quadratic part; a Min kind with whether it is split. `Unknown` stands for a code, or a split bit, that has no meaning.
+// The kind of the quadratic part. A Min kind that is split is a kind of its own, so that nothing is left to be asked once the kind is known. `Unknown`
+// stands for a code, or a split bit, that has no meaning.
 pub enum QuadraticKind {
     Absent,
     Quadratic,
-    QuadraticMin(bool),
+    QuadraticMin,
+    QuadraticMinSplit,
     Unknown,
 }
 
@@ -22,7 +24,8 @@ pub enum OtherKind {
     ConvexMonotone2,
     ConvexMonotone3,
     ConvexMonotone4,
-    ConvexMonotone4Min(bool),
+    ConvexMonotone4Min,
+    ConvexMonotone4MinSplit,
     Unknown,
 }
 
@@ -65,8 +68,8 @@ pub(crate) fn quadratic_named(tag: u16) -> QuadraticKind
     match tag / QUADRATIC_SPLIT * QUADRATIC_SPLIT {
         ABSENT => QuadraticKind::Absent,
         QUADRATIC => QuadraticKind::Quadratic,
-        QUADRATIC_MIN => QuadraticKind::QuadraticMin(false),
-        QUADRATIC_MIN_SPLIT => QuadraticKind::QuadraticMin(true),
+        QUADRATIC_MIN => QuadraticKind::QuadraticMin,
+        QUADRATIC_MIN_SPLIT => QuadraticKind::QuadraticMinSplit,
         _ => QuadraticKind::Unknown,
     }
 }
@@ -82,8 +85,8 @@ pub(crate) fn other_named(tag: u16) -> OtherKind
         CONVEX_MONOTONE2 => OtherKind::ConvexMonotone2,
         CONVEX_MONOTONE3 => OtherKind::ConvexMonotone3,
         CONVEX_MONOTONE4 => OtherKind::ConvexMonotone4,
-        CONVEX_MONOTONE4_MIN => OtherKind::ConvexMonotone4Min(false),
-        CONVEX_MONOTONE4_MIN_SPLIT => OtherKind::ConvexMonotone4Min(true),
+        CONVEX_MONOTONE4_MIN => OtherKind::ConvexMonotone4Min,
+        CONVEX_MONOTONE4_MIN_SPLIT => OtherKind::ConvexMonotone4MinSplit,
         _ => OtherKind::Unknown,
     }
 }

@@ -12,8 +12,9 @@ quadratic-value-spec =
     tie.close
     (tie.spec
     (λ c. search needs) (λ c. search needs) (λ c κs. search needs) (λ c κs. search needs)
-    (λ c. search needs) (λ c κs. search needs) (λ c κs. search needs) (λ c. search needs)
+    (λ c. search needs) (λ c κs. search needs) (λ c κs. search needs) (λ c. search needs) (λ c κs. search needs) (λ c κs. search needs) (λ c. search needs)
     (λ c. rw (c .enum-told .given .1))
     (λ c. rw (c .before .before .enum-told2 .given .1, c .value .ensures, c .before .quadratic-in .ensures))
-    (λ c. rw (c .before .before .before .kind .given .1, c .value2 .ensures, c .before .quadratic-min-in .ensures))
-    (λ c. rw (c .enum-told3 .given .1)))
+    (λ c. rw (c .before .before .enum-told3 .given .1, c .value2 .ensures, c .before .quadratic-min-in .ensures))
+    (λ c. rw (c .before .before .enum-told4 .given .1, c .value3 .ensures, c .before .quadratic-min-in2 .ensures))
+    (λ c. rw (c .enum-told5 .given .1)))

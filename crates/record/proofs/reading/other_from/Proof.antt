@@ -10,12 +10,13 @@ other-from-spec =
     tie.close
     (tie.spec
     (λ c. search needs) (λ c. search needs) (λ c κs. search needs) (λ c. search needs) (λ c κs. search needs) (λ c. search needs) (λ c κs. search needs)
-    (λ c. search needs) (λ c κs. search needs) (λ c. search needs) (λ c κs. search needs) (λ c. search needs) (λ c κs. search needs) (λ c. search needs)
+    (λ c. search needs) (λ c κs. search needs) (λ c. search needs) (λ c κs. search needs) (λ c. search needs) (λ c κs. search needs) (λ c. search needs) (λ c κs. search needs) (λ c. search needs)
     (λ c. rw (c .enum-told .given .1))
     (λ c. rw (c .before .enum-told2 .given .1, c .constant-in .ensures))
     (λ c. rw (c .before .enum-told3 .given .1, c .gradient-in .ensures))
     (λ c. rw (c .before .enum-told4 .given .1, c .second-in .ensures))
     (λ c. rw (c .before .enum-told5 .given .1, c .third-in .ensures))
     (λ c. rw (c .before .enum-told6 .given .1, c .fourth-in .ensures))
-    (λ c. rw (c .before .before .kind .given .1, c .fourth-min-in .ensures))
-    (λ c. rw (c .enum-told7 .given .1)))
+    (λ c. rw (c .before .enum-told7 .given .1, c .fourth-min-in .ensures))
+    (λ c. rw (c .before .enum-told8 .given .1, c .fourth-min-in2 .ensures))
+    (λ c. rw (c .enum-told9 .given .1)))
