@@ -29,6 +29,7 @@ use Rattle.curve.specs.Build.{buildVerdict, buildOutcome}
 use Rattle.curve.specs.Curve.{curveInNumbers, withExtrapolation}
 use Rattle.query.specs.Query.{placeOf, coveredAt, ask, answerInNumbers}
 use Rattle.curve.specs.declared.curve.Built.{Built}
+use Rattle.curve.specs.declared.curve.Built.the-variants as built
 use Rattle.curve.specs.declared.curve.Curve.{Curve}
 use Rattle.curve.specs.declared.curve.CurveInNumbers.{CurveInNumbers}
 use Rattle.query.specs.declared.answer.AnswerInNumbers.{AnswerInNumbers}
@@ -60,6 +61,11 @@ seven = ofBits binary64 0x401c_0000_0000_0000
 abbrev nine : Float
 nine = ofBits binary64 0x4022_0000_0000_0000
 
+-- the curve that was built; every table here is accepted
+abbrev curveIn : Built → Curve
+curveIn (built.Curve c) = c
+curveIn (built.Refused r) = record { sections = 0; held = false; extrapolates = false; tail = record { value = nan; total = nan; from = nan } }
+
 -- a table built into buffers of zeros, with no held period
 module _ (x y : List Float) (m : ConvexMonotone) where
   abbrev lent : Buffers
@@ -81,7 +87,7 @@ module _ (x y : List Float) (m : ConvexMonotone) where
   inNumbers = curveInNumbers (made .answer)
 
   abbrev curve : Bool → Curve
-  curve allow = record { sections = inNumbers .sections; held = false; extrapolates = allow; tail = inNumbers .tail }
+  curve allow = withExtrapolation (curveIn (made .answer)) allow
 
   abbrev valueAt : Bool → Float → AnswerInNumbers
   valueAt allow q = answerInNumbers (ask (λ s. section.value s q) (coveredAt x (curve allow) tagsOf slotsIn q))
@@ -156,6 +162,8 @@ table =
     ∷ row 3 (bits (valueAt x2 y2 m2 true (neg one) .answer)) 0x4000_0000_0000_0000
     ∷ row 4 (same 3 sheetNodes (nodesOf x2 y2 m2)) 3
     ∷ row 4 (same (2 * slotCount) sheetSlots (slotsIn x2 y2 m2)) (2 * slotCount)
+    ∷ row 4 (getD (inTwoSheets .tags) 0 0) (getD (tagsOf x2 y2 m2) 0 0)
+    ∷ row 4 (getD (inTwoSheets .tags) 1 0) (getD (tagsOf x2 y2 m2) 1 0)
     ∷ row 5 (bits (quadmin.value (fallsTo half) quarter)) 0x3fd0_0000_0000_0000
     ∷ row 5 (bits (quadmin.value (fallsTo half) half)) 0x0000_0000_0000_0000
     ∷ row 5 (bits (quadmin.value (fallsTo half) one)) 0x3ff0_0000_0000_0000
@@ -166,6 +174,7 @@ table =
     ∷ row 7 (slotOf (chosen (method.new zero sevenTenths false) one seven two) 18) 0x3fe0_0000_0000_0000
     ∷ row 7 (bits (section.value (chosen (method.new zero sevenTenths false) one seven two) threeQuarters)) 0x4004_0000_0000_0000
     ∷ row 7 (tagOf (chosen (method.new zero zero false) one seven two)) 0x0500
+    ∷ row 8 (tagOf (chosen m2 two one one)) 0x0500
     ∷ row 8 (slotOf (chosen m2 two one one) 18) 0x0000_0000_0000_0000
     ∷ row 8 (bits (section.value (chosen m2 two one one) zero)) 0x7ff8_0000_0000_0000
     ∷ row 9 (bits (root (ofBits binary64 0x40a2_0000_0000_0000))) 0x4048_0000_0000_0000

@@ -2,12 +2,13 @@
 use crate::points::POINTS;
 use curve::curve::Built;
 use curve::curve::Curve;
+use numbers::SLOTS;
 use table::method::ConvexMonotone;
 
 // The tags and slots that the curve of the most points fills: a buffer of so many is never refused for its length.
 pub(crate) const TAGS: usize = 31;
 
-pub(crate) const ROOM: usize = 744;
+pub(crate) const ROOM: usize = TAGS * SLOTS;
 
 pub(crate) enum Outcome {
     Curve(Curve),

@@ -59,5 +59,5 @@ pub(crate) fn agrees(tag: u16, slots: &[f64], words: &[u64; MOST]) -> bool {
     if !same_slots(slots, words) {
         return false;
     }
-    ends_on(tag, slots, words[25])
+    ends_on(tag, slots, words[SLOTS + 1])
 }

@@ -2,14 +2,15 @@
 use borrow.Author.Needs.{needs}
 use Prim.Native.Nat.{_≤_, _-_}
 use lib.ListN.{length}
+use Rattle.numbers.specs.Sizes.{slotCount}
 use Rattle.replay.proofs.records.same_slots.Statement.{statement}
 use Rattle.replay.proofs.records.same_slots.Tie as tie
 
 abbrev Inv-loop : tie.InvT-loop
-Inv-loop slots words i₀ i = (24 ≤ length slots)
+Inv-loop slots words i₀ i = (slotCount ≤ length slots)
 
 abbrev μ-loop : tie.MeasureT-loop
-μ-loop slots words i₀ i = 24 - i
+μ-loop slots words i₀ i = slotCount - i
 
 returns : tie.Need-returns Inv-loop μ-loop
 returns c = search needs
