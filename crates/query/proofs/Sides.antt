@@ -98,3 +98,7 @@ module _ (x : List Float) (q : Float) (up : rising x ≡ true) (step i probe : �
 
   pub looked : Strode x q step (i + step * boolByte (not (lt q (at x probe)))) (probe + step) × (i + step * boolByte (not (lt q (at x probe))) + step ≤ probe + step)
   looked = look (lt q (at x probe)) refl
+
+-- before both, and so before whichever is the smaller
+pub before-least : (p a b r : ℕ) → p < a → p < b → (r ≡ a) ⊎ (r ≡ b) → p < r
+before-least p a b r l m w = ⊎-elim (λ (e : r ≡ a). omega (arith, e, l)) (λ (e : r ≡ b). omega (arith, e, m)) w

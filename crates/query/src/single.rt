@@ -1,10 +1,10 @@
-// The price, or the running total, at one point of a curve. Knots that passed the tests rise, so the place is searched for and not walked to.
+// The price, or the running total, at one point of a curve. Knots that passed the tests rise, so strides come close to the place before it is walked to.
 use crate::answer::QueryAnswer;
 use crate::answer::query_verdict;
 use crate::number::Wanted;
 use crate::number::record_number;
 use crate::number::tail_number;
-use crate::place::search;
+use crate::place::place_of;
 use curve::curve::Curve;
 use record::number::Answer;
 use refusal::Refusal;
@@ -34,7 +34,7 @@ fn covering_number(
     if xs[end] <= q {
         return Answer::Number(tail_number(curve, wanted, q));
     }
-    record_number(wanted, tags, slots, search(xs, q), q)
+    record_number(wanted, tags, slots, place_of(xs, q), q)
 }
 
 // What is wanted at q, or the first refusal.

@@ -28,7 +28,7 @@ record-number-requires : tie.Need-record-number-requires
 record-number-requires c κs =
     let f = fits (c .before .before .before .before .before .before) in
     let p = place-le (c .before .before .before .before .before .before .args .xs .now) (c .before .before .before .before .before .before .args .q) in
-    let e = c .search .ensures in
+    let e = c .place-of .ensures in
     (omega (arith, f .low, f .room .in-tags, p, e), omega (arith, f .low, f .room .in-slots, p, e), omega (arith, f .low, f .room .high, p, e))
 
 returns-2 : tie.Need-returns-2
@@ -36,7 +36,7 @@ returns-2 c =
     let a = c .before .before .before .before .before .before .before .args in
     c .record-number .ensures
     ∙ ap (answerIn (λ (s : Section). figure (a .wanted) s (a .q)))
-    (ap (recordAt (a .tags .now) (a .slots .now)) (c .before .search .ensures) ∙ sym (before-the-last (a .xs .now) (a .curve) (a .tags .now) (a .slots .now) (a .q) (c .before .before .if1 .left)))
+    (ap (recordAt (a .tags .now) (a .slots .now)) (c .before .place-of .ensures) ∙ sym (before-the-last (a .xs .now) (a .curve) (a .tags .now) (a .slots .now) (a .q) (c .before .before .if1 .left)))
 
 pub covering-number-spec : {M : Type 1} → statement M
 covering-number-spec =
