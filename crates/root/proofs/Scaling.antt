@@ -1,9 +1,9 @@
 -- A number q of 1 to 53 binary digits, times 2 ^ k, normalised to the size of document 01 by its leading zeros.
-use Prim.Native.Nat.{ℕ, zero, suc, _+_, _-_, _*_, _/_, _%_, _^_, _≤_, _<_}
+use Prim.Native.Nat.{ℕ, suc, _+_, _-_, _*_, _/_, _%_, _^_, _≤_, _<_}
 use native.Mathlib.Omega.{arith}
 use native.Mathlib.Nat.{eq-zero-or-pos, le-of-eq, suc-mul, mul-one, mul-assoc, mul-div-cancel, mul-le-mul-right, le-trans, le-of-suc-le-suc, lt-of-le-of-lt, suc-add, mod-eq-of-lt}
 use mathlib.Core.Logic.{⊎-elim}
-use mathlib.Core.Path.{_≡_, refl, sym, ap, _∙_}
+use mathlib.Core.Path.{_≡_, sym, ap, _∙_}
 use lib.Pow.{pow-pos, pow-add, pow-mono, shl-lt}
 use lib.Count.{leadingZeros, leading-top}
 use lib.Ieee.{size}

@@ -32,13 +32,13 @@ fn nearest_root(s: u64) -> u64
     root
 }
 
-// A number at the size that the root needs: its root is that of significand * 2^52, a whole number of 53 digits, with this exponent.
+// A number at the size that the root needs. The root's bits are the whole number nearest to the root of significand * 2^52, plus exponent * 2^52.
 struct Normalised {
     significand: u64,
     exponent: u64,
 }
 
-// q * 2^k units, subnormal or normal, brought to size by the leading zeros: a significand of 53 digits, and one more where the rest is no power of 4 else.
+// Brings q * 2^k units, subnormal or normal, to size by the leading zeros of q: 53 digits, or 54 where the exponent is odd, so that the rest is a power of 4.
 fn normalise(q: u64, k: u64) -> Normalised
     requires { ⌜ (0 < q) × (q < 2 ^ 53) × (k ≤ 2045) ⌝ }
     ensures { λ r. ⌜ (r .significand * 2 ^ 52 ≡ scaled (q * 2 ^ k)) × (r .exponent ≡ pairs (q * 2 ^ k) + 484) ⌝ }

@@ -1,5 +1,5 @@
 -- `root::root_of` meets its contract: the whole number found is the root of the normalised number, under its exponent.
-use Prim.Native.Nat.{_+_, _*_, _^_}
+use Prim.Native.Nat.{_*_, _^_}
 use native.Mathlib.Omega.{arith}
 use mathlib.Core.Path.{_≡_, ap, _∙_}
 use borrow.Author.Needs.{needs}
