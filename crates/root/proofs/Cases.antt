@@ -13,6 +13,7 @@ use Rattle.numbers.proofs.Ways.{never}
 use Rattle.numbers.proofs.Signs.{zero-is-zero, nonzero-is-not, minus-is-below, plus-is-not-below}
 use Rattle.root.specs.Root.{root, inUnits}
 use Rattle.root.specs.Steps.{rootBits, unitsOfBits}
+use Rattle.root.specs.Nearest.{Positive}
 use Rattle.root.proofs.Units.{Fit, fit, Parts, parts-of, units-high, k-high, bits-are, units-of-bits}
 use Rattle.root.proofs.Result.{result, result-number}
 
@@ -39,10 +40,6 @@ root-not-finite nan k h = refl
 root-not-finite (inf true) k h = cc
 root-not-finite (inf false) k h = refl
 root-not-finite (fin s m e) k h = cc
-
--- a positive finite number
-abbrev pub Positive : Float → Type 0
-Positive a = (m : ℕ) × (e : ℤ) × (fin false (suc m) e ≡ a)
 
 pub is-positive : (a : Float) → eq a zero ≡ false → lt a zero ≡ false → finite a ≡ true → Positive a
 unfolding finite

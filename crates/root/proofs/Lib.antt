@@ -8,5 +8,6 @@ pub mod Cases
 pub mod Gaps
 pub mod Sides
 pub mod Rounded
+pub mod Returned
 pub mod Unique
 pub mod Figures

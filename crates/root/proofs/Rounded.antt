@@ -15,7 +15,7 @@ use lib.Ieee.Fits.{down-pos}
 use Rattle.numbers.proofs.Ways.{never}
 use Rattle.root.specs.Root.{root, rootOf, nearestRoot, scaled, pairs, inUnits}
 use Rattle.root.specs.Steps.{rootBits}
-use Rattle.root.specs.Nearest.{AsDocumented, unitsOf, YsSide}
+use Rattle.root.specs.Nearest.{AsDocumented, unitsOf, YsSide, IsNearest}
 use Rattle.root.proofs.Powers.{four-pow}
 use Rattle.root.proofs.Units.{Fit, fit, place, parts-of, units-high}
 use Rattle.root.proofs.Sides.{side-minus, side-plus}
@@ -142,7 +142,7 @@ module _ (m : ℕ) (e : ℤ) (h : T (fits binary64 (fin false (suc m) e))) where
   at-units s y v = subst (λ (N : ℕ). YsSide N (unitsOf (root a)) s y) (sym square) (subst (λ (r : ℕ). YsSide (M m e h * (x * x)) r s y) (sym r-units) v)
 
   -- theorem 2: every finite binary64 number other than the root lies farther from the true root, and never as near
-  pub nearest : (s : Bool) (k : ℕ) (d : ℤ) → T (fits binary64 (fin s k d)) → (fin s k d ≡ root a → ⊥) → YsSide (n m e h * 2 ^ 1074) (unitsOf (root a)) s (inUnits k d)
+  pub nearest : IsNearest a (root a)
   nearest true k d f o =
       let t = parts-of m e (fitted m e h) in
       let u = units-high m e (fitted m e h) in

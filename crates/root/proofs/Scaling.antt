@@ -1,9 +1,9 @@
 -- A number q of 1 to 53 binary digits, times 2 ^ k, normalised to the size of document 01 by its leading zeros.
-use Prim.Native.Nat.{ℕ, zero, suc, _+_, _-_, _*_, _/_, _%_, _^_, _≤_, _<_}
+use Prim.Native.Nat.{ℕ, suc, _+_, _-_, _*_, _/_, _%_, _^_, _≤_, _<_}
 use native.Mathlib.Omega.{arith}
 use native.Mathlib.Nat.{eq-zero-or-pos, le-of-eq, suc-mul, mul-one, mul-assoc, mul-div-cancel, mul-le-mul-right, le-trans, le-of-suc-le-suc, lt-of-le-of-lt, suc-add, mod-eq-of-lt}
 use mathlib.Core.Logic.{⊎-elim}
-use mathlib.Core.Path.{_≡_, refl, sym, ap, _∙_}
+use mathlib.Core.Path.{_≡_, sym, ap, _∙_}
 use lib.Pow.{pow-pos, pow-add, pow-mono, shl-lt}
 use lib.Count.{leadingZeros, leading-top}
 use lib.Ieee.{size}
@@ -28,13 +28,17 @@ module _ (q k zeros : ℕ) (t : Placed q zeros) where
   pub size-here : size (q * 2 ^ k) ≡ suc (t .j + k)
   size-here = size-is (q * 2 ^ k) (t .j + k) (rw (pow-add 2 (t .j) k) (mul-le-mul-right (2 ^ k) (t .low))) (rw (← suc-add) (shl-lt (suc (t .j)) k (t .high)))
 
-  -- how many digits q * 2 ^ k has, and one: the code's `digits`
+  -- how many digits q * 2 ^ k has, and one
   pub digits-are : k + 65 - zeros ≡ size (q * 2 ^ k) + 1
   digits-are = rw size-here (omega arith)
 
-  pub pairs-are : (k + 65 - zeros) / 2 ≡ pairs (q * 2 ^ k)
+  pairs-are : (k + 65 - zeros) / 2 ≡ pairs (q * 2 ^ k)
   unfolding pairs
   pairs-are = ap (λ (n : ℕ). n / 2) digits-are
+
+  -- the exponent that the code answers
+  pub exponent-is : (k + 1033 - zeros) / 2 ≡ pairs (q * 2 ^ k) + 484
+  exponent-is = omega (arith, pairs-are)
 
   -- how far the code shifts q
   abbrev shift : ℕ
@@ -69,15 +73,12 @@ module _ (q k zeros : ℕ) (t : Placed q zeros) where
   pub scaled-exact : q * 2 ^ k * 4 ^ 53 ≡ scaled (q * 2 ^ k) * 4 ^ pairs (q * 2 ^ k)
   scaled-exact = exact ∙ ap (λ (n : ℕ). n * 4 ^ pairs (q * 2 ^ k)) scaled-is
 
-  -- A shift by z, which is that far, loses nothing. The code's own z stands in the goals that cite these.
+  -- A shift by z, which is that far, loses nothing. The code's own z stands in the goals that cite this.
   shifted-whole : (z : ℕ) → z ≡ shift → q * 2 ^ z % 2 ^ 64 ≡ q * 2 ^ shift
   shifted-whole z e = ap (λ (y : ℕ). q * 2 ^ y % 2 ^ 64) e ∙ mod-eq-of-lt (lt-pow (q * 2 ^ shift) 54 64 shifted-lt (omega arith))
 
-  pub handed-lt : (z : ℕ) → z ≡ shift → q * 2 ^ z % 2 ^ 64 < 2 ^ 54
-  handed-lt z e = rw (shifted-whole z e) shifted-lt
-
-  pub handed-is : (z : ℕ) → z ≡ shift → q * 2 ^ z % 2 ^ 64 * 2 ^ 52 ≡ scaled (q * 2 ^ k)
-  handed-is z e = ap (λ (y : ℕ). y * 2 ^ 52) (shifted-whole z e) ∙ scaled-is
+  pub significand-is : (z : ℕ) → z ≡ shift → q * 2 ^ z % 2 ^ 64 * 2 ^ 52 ≡ scaled (q * 2 ^ k)
+  significand-is z e = ap (λ (y : ℕ). y * 2 ^ 52) (shifted-whole z e) ∙ scaled-is
 
   -- M lies in its range, and is no nearer to 2 ^ 106 than a number of 53 significant digits can be
   shifted-below : q * 2 ^ shift + 2 ≤ 2 ^ 54
@@ -92,23 +93,13 @@ module _ (q k zeros : ℕ) (t : Placed q zeros) where
   pub scaled-range : (2 ^ 104 ≤ scaled (q * 2 ^ k)) × (scaled (q * 2 ^ k) + 2 ^ 53 ≤ 2 ^ 106)
   scaled-range = omega (arith, scaled-is, shifted-ge, shifted-below)
 
--- a q of 53 digits needs no shift but that of an odd exponent
-module _ (q k : ℕ) (low : 2 ^ 52 ≤ q) (high : q < 2 ^ 53) where
-  full : Placed q 11
-  full = record { j = 52; sum = refl; low = low; high = high; small = omega arith }
+-- the same of every q of 1 to 53 digits: what the code normalises it to, and how large its parts get
+module _ (q k : ℕ) (p : 0 < q) (h : q < 2 ^ 53) where
+  pub significand-small : (s : ℕ) → s * 2 ^ 52 ≡ scaled (q * 2 ^ k) → s < 2 ^ 54
+  significand-small s e = let r = scaled-range q k _ (placed q p h) in omega arith
 
-  pub full-pairs : k / 2 + 511 ≡ pairs (q * 2 ^ k) + 484
-  full-pairs = omega (arith, pairs-are q k 11 full)
+  pub pairs-high : k ≤ 2045 → pairs (q * 2 ^ k) ≤ 1049
+  pairs-high l = let t = placed q p h in omega (arith, pairs-are q k _ t)
 
-  bit-pow : (n : ℕ) → n < 2 → 2 ^ n ≡ n + 1
-  bit-pow zero h = refl
-  bit-pow (suc zero) h = refl
-  bit-pow (suc (suc n)) h = absurd (omega arith)
-
-  pub full-scaled : q * (k % 2 + 1) * 2 ^ 52 ≡ scaled (q * 2 ^ k)
-  full-scaled =
-      let e : 11 - 11 + (k + 65 - 11) % 2 ≡ k % 2 = omega arith in
-      ap (λ (x : ℕ). q * x * 2 ^ 52) (sym (bit-pow (k % 2) (omega arith)) ∙ ap (λ (n : ℕ). 2 ^ n) (sym e)) ∙ scaled-is q k 11 full
-
-  pub full-small : nearestRoot (scaled (q * 2 ^ k)) ≤ 2 ^ 53
-  full-small = let r = scaled-range q k 11 full in nearest-small (scaled (q * 2 ^ k)) (omega arith) (omega arith)
+  pub root-small : nearestRoot (scaled (q * 2 ^ k)) ≤ 2 ^ 53
+  root-small = let r = scaled-range q k _ (placed q p h) in nearest-small (scaled (q * 2 ^ k)) (omega arith) (omega arith)

@@ -103,12 +103,11 @@ high-bits k q n l h e =
     simp (le-ltb (k * 2 ^ 52 + q) (2 ^ 52) (omega arith), f, r) e
 
 -- the units of a normal number, by the parts that the code takes
-pub normal-units : (b : ℕ) → 2 ^ 52 ≤ b → unitsOfBits b ≡ ((b - 2 ^ 52) % 2 ^ 52 + 2 ^ 52) * 2 ^ ((b - 2 ^ 52) / 2 ^ 52)
+pub normal-units : (b : ℕ) → 2 ^ 52 ≤ b → unitsOfBits b ≡ (b % 2 ^ 52 + 2 ^ 52) * 2 ^ (b / 2 ^ 52 - 1)
 unfolding unitsOfBits
 normal-units b h =
-    let f : b / 2 ^ 52 - 1 ≡ (b - 2 ^ 52) / 2 ^ 52 = omega arith in
-    let r : b - (b - 2 ^ 52) / 2 ^ 52 * 2 ^ 52 ≡ (b - 2 ^ 52) % 2 ^ 52 + 2 ^ 52 = omega arith in
-    simp (le-ltb b (2 ^ 52) h, f, r)
+    let r : b - (b / 2 ^ 52 - 1) * 2 ^ 52 ≡ b % 2 ^ 52 + 2 ^ 52 = omega arith in
+    simp (le-ltb b (2 ^ 52) h, r)
 
 pub units-of-bits : (n : ℕ) (t : Parts n) → unitsOfBits (t .k * 2 ^ 52 + t .q) ≡ n
 units-of-bits n t =

@@ -2,7 +2,7 @@
 ghost use mathlib.Core.Path.{_≡_};
 ghost use mathlib.Core.Logic.{_⊎_};
 ghost use Prim.Native.Nat.{_+_, _*_, _/_, _%_, _^_, _≤_, _<_};
-ghost use Rattle.root.specs.Root.{root, nearestRoot};
+ghost use Rattle.root.specs.Root.{root, nearestRoot, scaled, pairs};
 ghost use Rattle.root.specs.Steps.{rootBits, unitsOfBits};
 
 // The whole number nearest to the square root of s * 2^52. Each turn takes two more binary digits of that number, the next pair standing on
@@ -32,15 +32,33 @@ fn nearest_root(s: u64) -> u64
     root
 }
 
-// The bits of the root of q * 2^k units. Leading zeros bring q to size; an odd exponent takes one digit more, so that the rest is a power of 4.
+// A number at the size that the root needs. The root's bits are the whole number nearest to the root of significand * 2^52, plus exponent * 2^52.
+struct Normalised {
+    significand: u64,
+    exponent: u64,
+}
+
+// Brings q * 2^k units, subnormal or normal, to size by the leading zeros of q: 53 digits, or 54 where the exponent is odd, so that the rest is a power of 4.
+fn normalise(q: u64, k: u64) -> Normalised
+    requires { ⌜ (0 < q) × (q < 2 ^ 53) × (k ≤ 2045) ⌝ }
+    ensures { λ r. ⌜ (r .significand * 2 ^ 52 ≡ scaled (q * 2 ^ k)) × (r .exponent ≡ pairs (q * 2 ^ k) + 484) ⌝ }
+{
+    let zeros = u64::leading_zeros(q) as u64;
+    let twice = k + 1033 - zeros;
+    let significand = q << (zeros - 11 + twice % 2);
+    Normalised {
+        significand,
+        exponent: twice / 2,
+    }
+}
+
+// The bits of the root of q * 2^k units.
 fn root_of(q: u64, k: u64) -> u64
     requires { ⌜ (0 < q) × (q < 2 ^ 53) × (k ≤ 2045) ⌝ }
     ensures { λ r. ⌜ r ≡ rootBits (q * 2 ^ k) ⌝ }
 {
-    let zeros = u64::leading_zeros(q) as u64;
-    let digits = k + 65 - zeros;
-    let s = q << (zeros - 11 + digits % 2);
-    (digits / 2 + 484) * 0x10_0000_0000_0000 + nearest_root(s)
+    let n = normalise(q, k);
+    n.exponent * 0x10_0000_0000_0000 + nearest_root(n.significand)
 }
 
 // The bits of the root of the positive finite number with these bits, the plain way.
@@ -113,36 +131,24 @@ fn settle(s: u64, g: u64) -> u64
     g + (m + g < n) as u64 - (n + g <= m) as u64
 }
 
-// A significand of 53 digits, or twice that where the exponent is odd. They come together: above the 52 digits that are written stands the exponent's last digit.
-fn normalise(m: u64) -> u64
-    requires { ⌜ m < 2 ^ 53 ⌝ }
-    ensures { λ r. ⌜ r ≡ (m % 2 ^ 52 + 2 ^ 52) * (m / 2 ^ 52 + 1) ⌝ }
-{
-    if m < 0x10_0000_0000_0000 {
-        m + 0x10_0000_0000_0000
-    } else {
-        m * 2
-    }
-}
-
-// The bits of the root of the normal number a with these bits: a guess, made right by whole numbers, or 0 where it was too far off. Of `from` the upper digits,
-// halved, are the root's exponent; of the guess only the significand is taken.
+// The bits of the root of the normal number a with these bits: a guess, made right by whole numbers, or 0 where it was too far off. Of the guess only the
+// significand is taken.
 fn normal(a: f64, bits: u64) -> u64
     requires { ⌜ (2 ^ 52 ≤ bits) × (bits < 2047 * 2 ^ 52) ⌝ }
     ensures { λ r. ⌜ (r ≡ 0) ⊎ (r ≡ rootBits (unitsOfBits bits)) ⌝ }
 {
-    let from = bits + 0x3fd0_0000_0000_0000;
-    let m = from % 0x20_0000_0000_0000;
+    let q = bits % 0x10_0000_0000_0000 + 0x10_0000_0000_0000;
+    let n = normalise(q, bits / 0x10_0000_0000_0000 - 1);
     let x = guess(a, bits);
     if x != x {
         return 0;
     }
     let g = f64::to_bits(x) % 0x10_0000_0000_0000 + 0x10_0000_0000_0000;
-    let r = settle(normalise(m), g);
+    let r = settle(n.significand, g);
     if r == 0 {
         return 0;
     }
-    (from - m) / 2 + r
+    n.exponent * 0x10_0000_0000_0000 + r
 }
 
 // The square root of a, rounded to the nearest. Nearly every number is normal, and is tested for that alone.

@@ -6,7 +6,8 @@ use lib.Dec.{T}
 use lib.Ieee.{Float, binary64, toBits, ofBits, nanBits}
 use denote.Floats.{passes}
 use Rattle.numbers.specs.Words.{finite}
-use Rattle.root.proofs.Cases.{root-zero, root-below, root-not-finite, root-positive, root-number, number-is, Positive, is-positive, bits-range}
+use Rattle.root.specs.Nearest.{Positive}
+use Rattle.root.proofs.Cases.{root-zero, root-below, root-not-finite, root-positive, root-number, number-is, is-positive, bits-range}
 use Rattle.root.proofs.special.Statement.{statement}
 use Rattle.root.proofs.special.Tie as tie
 

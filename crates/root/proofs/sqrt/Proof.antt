@@ -8,7 +8,8 @@ use lib.Dec.{T}
 use lib.Ieee.{binary64, toBits, ofBits, nanBits}
 use denote.Floats.{passes}
 use Rattle.root.specs.Steps.{rootBits, unitsOfBits}
-use Rattle.root.proofs.Cases.{Positive, above-zero, positive-number, root-positive, root-number, bits-range}
+use Rattle.root.specs.Nearest.{Positive}
+use Rattle.root.proofs.Cases.{above-zero, positive-number, root-positive, root-number, bits-range}
 use Rattle.root.proofs.sqrt.Statement.{statement}
 use Rattle.root.proofs.sqrt.Tie as tie
 
