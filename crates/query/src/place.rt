@@ -68,36 +68,27 @@ fn walk_from(xs: &[f64], q: f64, from: usize) -> usize
     at
 }
 
-// Less than 16 sections before the place, in two strides of at most 15 steps, of 256 and of 16.
-fn approach(xs: &[f64], q: f64) -> usize
-    requires { ⌜ (2 ≤ length (now xs)) × (length (now xs) ≤ 4096) × (rising (now xs) ≡ true) ⌝ }
-    ensures { λ r. ⌜ (r ≤ placeOf (now (xs .entry)) q) × (placeOf (now (xs .entry)) q < r + 16) ⌝ }
-{
-    let end = xs.len() - 1;
-    let far = stride(xs, q, 0, end, 256);
-    stride(xs, q, far, least(far + 256, end), 16)
-}
-
-// The place of a query that is asked by itself: a stride of 2 leaves the walk a step or none.
+// The place of a query that is asked by itself: three strides of at most 15 steps, of 256, of 16 and of 2, leave the walk a step or none.
 pub(crate) fn place_of(xs: &[f64], q: f64) -> usize
     requires { ⌜ (2 ≤ length (now xs)) × (length (now xs) ≤ 4096) × (rising (now xs) ≡ true) ⌝ }
     ensures { λ r. ⌜ r ≡ placeOf (now (xs .entry)) q ⌝ }
 {
-    let near = approach(xs, q);
-    walk_from(
-        xs,
-        q,
-        stride(xs, q, near, least(near + 16, xs.len() - 1), 2),
-    )
+    let end = xs.len() - 1;
+    let far = stride(xs, q, 0, end, 256);
+    let near = stride(xs, q, far, least(far + 256, end), 16);
+    walk_from(xs, q, stride(xs, q, near, least(near + 16, end), 2))
 }
 
-// The place of one of many queries: a stride of 1 ends at it. With queries in no order the processor would guess the end of a walk wrong every other time.
+// The place of one of many queries: a last stride of 1 ends at it. With queries in no order the processor would guess the end of a walk wrong every other
+// time.
 pub(crate) fn search(xs: &[f64], q: f64) -> usize
     requires { ⌜ (2 ≤ length (now xs)) × (length (now xs) ≤ 4096) × (rising (now xs) ≡ true) ⌝ }
     ensures { λ r. ⌜ r ≡ placeOf (now (xs .entry)) q ⌝ }
 {
-    let near = approach(xs, q);
-    stride(xs, q, near, least(near + 16, xs.len() - 1), 1)
+    let end = xs.len() - 1;
+    let far = stride(xs, q, 0, end, 256);
+    let near = stride(xs, q, far, least(far + 256, end), 16);
+    stride(xs, q, near, least(near + 16, end), 1)
 }
 
 // The same, where it is likely to be `near` or the place after: queries that rise take a step each.
