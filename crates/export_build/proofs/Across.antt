@@ -25,7 +25,8 @@ use Rattle.curve.specs.declared.curve.Built.the-variants as built
 use Rattle.growth.specs.Growth.{grown}
 use Rattle.growth.specs.declared.growth.Carried.{Carried}
 use Rattle.growth.specs.declared.growth.Carried.the-variants as carried
-use Rattle.sheets.specs.InSheets.{cutsFit, inSheetsOutcome}
+use Rattle.sheets.specs.Cuts.{cutsFit}
+use Rattle.sheets.specs.InSheets.{inSheetsOutcome}
 use Rattle.sheets.specs.Sheet.{sheetVerdict, sheetOutcome, sheetInNumbers}
 use Rattle.sheets.specs.declared.sheet.SheetBuilt.{SheetBuilt}
 use Rattle.sheets.specs.declared.sheet.SheetBuilt.the-variants as sheet-built

@@ -14,7 +14,8 @@ ghost use Rattle.refusal.specs.Refusal.{first};
 ghost use Rattle.table.specs.Buffers.{buffers};
 ghost use Rattle.table.specs.Method.{new};
 ghost use Rattle.curve.specs.Build.{buildTests};
-ghost use Rattle.sheets.specs.InSheets.{cutsFit, inSheetsOutcome};
+ghost use Rattle.sheets.specs.Cuts.{cutsFit};
+ghost use Rattle.sheets.specs.InSheets.{inSheetsOutcome};
 ghost use Rattle.export_build.specs.Building.{across, curveAcross};
 ghost use Rattle.export_build.specs.Steps.{lastCut};
 

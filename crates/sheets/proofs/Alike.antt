@@ -31,7 +31,8 @@ use Rattle.assembly.specs.Sections.{periodAt, sectionAt, tagAt, slotAt, tailOf}
 use Rattle.assembly.specs.declared.sections.Tail.{Tail}
 use Rattle.assembly.proofs.Places.{node-first, node-last, node-middle}
 use Rattle.sheets.specs.Sheet.{sheetFrame}
-use Rattle.sheets.specs.Pieces.{Piece, part, whole, Fair}
+use Rattle.sheets.specs.Pieces.{Piece, part, whole}
+use Rattle.sheets.specs.Steps.{Fair}
 
 module _ {A : Type 0} (p : Piece) (xs : List A) (h : p .to < length xs) where
   pub part-length : length (part p xs) ≡ p .to + 1 - p .from

@@ -1,106 +1,162 @@
--- The sheets of a table cut at inner knots: each is a stretch with a node given for one end at least, and every period is in one of them.
-use Prim.Native.Nat.{ℕ, _+_, _-_, _≤_, _<_}
+-- The sheets of a table that is cut at inner knots: each is a stretch with a node given for one end at least, every period is in one of them, and those that are
+-- handed the whole's numbers are fair.
+use Prim.Native.Nat.{ℕ, zero, suc, _+_, _-_, _≤_, _<_}
 use native.Mathlib.Omega.{arith}
 use native.Mathlib.Nat.{le-refl}
-use mathlib.Core.Bool.{Bool, true, false, _&&_}
-use mathlib.Core.List.{List, [], _∷_}
+use mathlib.Core.Bool.{Bool, true, false, cond}
+use mathlib.Core.List.{List, [], _∷_, map}
 use mathlib.Core.Logic.{_⊎_, inl, inr, ⊎-elim}
 use mathlib.Core.Path.{_≡_, refl, sym, ap, _∙_}
-use borrow.Author.Tests.{ltb-true}
-use lib.Dec.{ltb}
+use borrow.Author.Tests.{ltb-true, eq-eqb, ne-eqb}
+use lib.Dec.{eqb, ltb}
 use lib.Ieee.{Float}
-use lib.ListN.{length}
-use Rattle.numbers.specs.Words.{zero}
-use Rattle.numbers.proofs.Every.{and-split}
-use Rattle.numbers.proofs.Ways.{lt-or-le, never}
-use Rattle.table.specs.Table.{nodeAt, totalAt}
+use lib.ListN.{length, getD}
+use Rattle.numbers.proofs.Every.{all-at, and-split}
+use Rattle.numbers.proofs.Ways.{lt-or-le}
+use Rattle.table.specs.Table.{nodeAt}
 use Rattle.table.specs.declared.method.ConvexMonotone.{ConvexMonotone}
 use Rattle.table.specs.declared.ends.End.{End}
 use Rattle.table.specs.declared.ends.End.the-variants as end
+use Rattle.sheets.specs.Cuts.{startOf, finishOf, cutFits, cutsFit}
+use Rattle.sheets.specs.Pieces.{Piece, whole}
+use Rattle.sheets.specs.SameCurve.{CutTable, Call, pieceOf, One, Complete, handed}
 use Rattle.sheets.specs.Sheet.{noneGiven}
-use Rattle.sheets.specs.Pieces.{Cut, Piece, whole, Fair, piecesFrom, piecesOf, rises, inner, handed}
-use Rattle.sheets.proofs.Strokes.{One}
+use Rattle.sheets.specs.Steps.{Fair}
 
--- where a cut stands among the others
-pub record Step (a last : ℕ) (c : Cut) (cs : List Cut) : Type 0 where
-  pub above : a < c .place
-  pub below : c .place < last
-  pub onward : rises (c .place) last cs ≡ true
+pub given-right : (l : End) (g : Float) → noneGiven l (end.Given g) ≡ false
+given-right end.Free g = refl
+given-right (end.Given h) g = refl
 
-pub step : (a last : ℕ) (c : Cut) (cs : List Cut) → rises a last (c ∷ cs) ≡ true → Step a last c cs
-unfolding rises
-step a last c cs h =
-    let p = and-split (ltb a (c .place)) (ltb (c .place) last && rises (c .place) last cs) h in
-    let q = and-split (ltb (c .place) last) (rises (c .place) last cs) (p .1) in
-    record { above = ltb-true a (c .place) (p .0); below = ltb-true (c .place) last (q .0); onward = q .1 }
+pub given-left : (r : End) (l : End) (g : Float) → l ≡ end.Given g → noneGiven l r ≡ false
+given-left r l g e = rw e
 
-pub record Stands (a last : ℕ) (p : Piece) : Type 0 where
-  pub after : a ≤ p .from
+-- where sheets start and end
+module _ (cuts : List ℕ) (n : ℕ) (h : cutsFit cuts n ≡ true) where
+  pub cut-fits : (j : ℕ) → j < length cuts → (startOf cuts j < getD cuts j 0) × (getD cuts j 0 < n - 1)
+  unfolding cutsFit
+  cut-fits j l =
+      let p = and-split (ltb (startOf cuts j) (getD cuts j 0)) (ltb (getD cuts j 0) (n - 1)) (all-at (length cuts) (cutFits cuts n) h j l) in
+      (ltb-true (startOf cuts j) (getD cuts j 0) (p .0), ltb-true (getD cuts j 0) (n - 1) (p .1))
+
+pub next-start : (cuts : List ℕ) (j : ℕ) → getD cuts j 0 ≡ startOf cuts (j + 1)
+next-start cuts j =
+    let e : j + 1 ≡ 0 → ⊥ = λ z. omega arith in
+    let s : j + 1 - 1 ≡ j = omega arith in
+    rw (ne-eqb (j + 1) 0 e, s)
+
+finish-cut : (n : ℕ) (cuts : List ℕ) (j : ℕ) → j < length cuts → finishOf n cuts j ≡ getD cuts j 0
+finish-cut n cuts j l = let e : j ≡ length cuts → ⊥ = λ z. omega (arith, l) in rw (ne-eqb j (length cuts) e)
+
+finish-last : (n : ℕ) (cuts : List ℕ) (j : ℕ) → j ≡ length cuts → finishOf n cuts j ≡ n - 1
+finish-last n cuts j e = rw (eq-eqb j (length cuts) e)
+
+-- a stretch of a table whose last place is `last`
+pub record Stands (last : ℕ) (p : Piece) : Type 0 where
   pub rising : p .from < p .to
   pub inside : p .to ≤ last
 
-pub stands : (cs : List Cut) (a : ℕ) (l : End) (t : Float) (last : ℕ) → a < last → rises a last cs ≡ true → (p : Piece) → One p (piecesFrom a l t last cs) → Stands a last p
-unfolding piecesFrom
-stands [] a l t last h r p (inl e) = rw e (record { after = le-refl a; rising = h; inside = le-refl last })
-stands [] a l t last h r p (inr o) = absurd o
-stands (c ∷ cs) a l t last h r p (inl e) = let s = step a last c cs r in let b = s .below in rw e (record { after = le-refl a; rising = s .above; inside = omega (arith, b) })
-stands (c ∷ cs) a l t last h r p (inr o) =
-    let s = step a last c cs r in
-    let q = stands cs (c .place) (end.Given (c .node)) (c .total) last (s .below) (s .onward) p o in
-    let u = s .above in
-    let v = q .after in
-    record { after = omega (arith, u, v); rising = q .rising; inside = q .inside }
+-- sheets that cover such a table, a node given for one end of each at least
+pub record Covers (last : ℕ) (ps : List Piece) : Type 0 where
+  pub stands : (p : Piece) → One p ps → Stands last p
+  pub given : (p : Piece) → One p ps → noneGiven (p .left) (p .right) ≡ false
+  pub period : (i : ℕ) → i < last → (p : Piece) × One p ps × (p .from ≤ i) × (i < p .to)
 
--- past the first cut every sheet has a left node; the first sheet has a right one
-given-from : (cs : List Cut) (a : ℕ) (g t : Float) (last : ℕ) (p : Piece) → One p (piecesFrom a (end.Given g) t last cs) → noneGiven (p .left) (p .right) ≡ false
-unfolding piecesFrom
-given-from [] a g t last p (inl e) = rw e
-given-from [] a g t last p (inr o) = absurd o
-given-from (c ∷ cs) a g t last p (inl e) = rw e
-given-from (c ∷ cs) a g t last p (inr o) = given-from cs (c .place) (c .node) (c .total) last p o
+pub one-map : {A B : Type 0} (f : A → B) (l : List A) (a : A) → One a l → One (f a) (map f l)
+one-map f [] a o = absurd o
+one-map f (b ∷ l) a (inl e) = inl (ap f e)
+one-map f (b ∷ l) a (inr o) = inr (one-map f l a o)
 
-pub given : (n : ℕ) (cuts : List Cut) → inner n cuts ≡ true → (p : Piece) → One p (piecesOf n cuts) → noneGiven (p .left) (p .right) ≡ false
-unfolding piecesFrom
-given n [] h p o = never h refl
-given n (c ∷ cs) h p (inl e) = rw e
-given n (c ∷ cs) h p (inr o) = given-from cs (c .place) (c .node) (c .total) (n - 1) p o
+pub map-one : {A B : Type 0} (f : A → B) (l : List A) (c : B) → One c (map f l) → (a : A) × One a l × (c ≡ f a)
+map-one f [] c o = absurd o
+map-one f (b ∷ l) c (inl e) = (b, inl refl, e)
+map-one f (b ∷ l) c (inr o) = let q = map-one f l c o in (q .0, inr (q .1), q .2)
 
--- every period is in a sheet
-pub covers : (cs : List Cut) (a : ℕ) (l : End) (t : Float) (last : ℕ) → a < last → rises a last cs ≡ true → (i : ℕ) → a ≤ i → i < last →
-    (p : Piece) × One p (piecesFrom a l t last cs) × (p .from ≤ i) × (i < p .to)
-unfolding piecesFrom
-covers [] a l t last h r i u v = (record { from = a; to = last; left = l; right = end.Free; start = t }, inl refl, u, v)
-covers (c ∷ cs) a l t last h r i u v =
-    let s = step a last c cs r in
-    ⊎-elim
-    (λ (w : i < c .place). (record { from = a; to = c .place; left = l; right = end.Given (c .node); start = t }, inl refl, u, w))
-    (λ (w : c .place ≤ i).
-    let q = covers cs (c .place) (end.Given (c .node)) (c .total) last (s .below) (s .onward) i w v in
-    (q .0, inr (q .1), q .2, q .3))
-    (lt-or-le i (c .place))
+module _ (x y : List Float) (cuts : List ℕ) (t : CutTable x y cuts) where
+  abbrev n : ℕ
+  n = length x
 
-pub rises-inner : (n : ℕ) (cuts : List Cut) → inner n cuts ≡ true → rises 0 (n - 1) cuts ≡ true
-rises-inner n [] h = never h refl
-rises-inner n (c ∷ cs) h = h
+  -- one after the other
+  module _ (j : ℕ) (l : j ≤ length cuts) where
+    pub stretch : (startOf cuts j < finishOf n cuts j) × (finishOf n cuts j ≤ n - 1)
+    stretch = by (lt-or-le j (length cuts))
+      where
+        by : (j < length cuts) ⊎ (length cuts ≤ j) → (startOf cuts j < finishOf n cuts j) × (finishOf n cuts j ≤ n - 1)
+        by (inl u) = let (a, b) = cut-fits cuts n (t .inner) j u in let e = finish-cut n cuts j u in (omega (arith, a, e), omega (arith, b, e))
+        by (inr u) =
+            let c = t .cut in
+            let k : j - 1 < length cuts = omega (arith, l, u, c) in
+            let (_, b) = cut-fits cuts n (t .inner) (j - 1) k in
+            let s : j - 1 + 1 ≡ j = omega (arith, u, c) in
+            let w : getD cuts (j - 1) 0 ≡ startOf cuts j = next-start cuts (j - 1) ∙ ap (startOf cuts) s in
+            let f = finish-last n cuts j (omega (arith, l, u)) in
+            (omega (arith, b, w, f), omega (arith, f))
 
--- sheets that are handed the whole's numbers
-module _ (x y : List Float) (method : ConvexMonotone) where
-  fairs : (ks : List ℕ) (a : ℕ) (l : End) (t : Float) → a < length x - 1 → rises a (length x - 1) (handed x y (whole method) ks) ≡ true →
-      ((a ≡ 0) × (l ≡ end.Free)) ⊎ ((0 < a) × (l ≡ end.Given (nodeAt x y (whole method) a))) → t ≡ totalAt x y (whole method) a →
-      (p : Piece) → One p (piecesFrom a l t (length x - 1) (handed x y (whole method) ks)) → Fair x y method p
-  unfolding piecesFrom handed
-  fairs [] a l t h r e f p (inl z) = rw z (record { rising = h; inside = le-refl (length x - 1); left-end = e; right-end = inl (refl, refl); total = f })
-  fairs [] a l t h r e f p (inr o) = absurd o
-  fairs (k ∷ ks) a l t h r e f p (inl z) =
-      let s = step a (length x - 1) _ (handed x y (whole method) ks) r in
-      let b = s .below in
-      rw z (record { rising = s .above; inside = omega (arith, b); left-end = e; right-end = inr (b, refl); total = f })
-  fairs (k ∷ ks) a l t h r e f p (inr o) =
-      let s = step a (length x - 1) _ (handed x y (whole method) ks) r in
-      let u = s .above in
-      fairs ks k _ _ (s .below) (s .onward) (inr (omega (arith, u), refl)) refl p o
+    pub node-given : (q : Call) → q .sheet ≡ j → noneGiven (pieceOf n cuts q .left) (pieceOf n cuts q .right) ≡ false
+    node-given q e = by (lt-or-le 0 (q .sheet))
+      where
+        by : (0 < q .sheet) ⊎ (q .sheet ≤ 0) → noneGiven (pieceOf n cuts q .left) (pieceOf n cuts q .right) ≡ false
+        by (inl u) = let z : q .sheet ≡ 0 → ⊥ = λ e. omega (arith, u) in given-left (pieceOf n cuts q .right) (pieceOf n cuts q .left) (q .left) (rw (ne-eqb (q .sheet) 0 z))
+        by (inr u) =
+            let c = t .cut in
+            let z : q .sheet ≡ length cuts → ⊥ = λ e. omega (arith, u, c) in
+            ap (noneGiven (pieceOf n cuts q .left)) (rw (ne-eqb (q .sheet) (length cuts) z)) ∙ given-right (pieceOf n cuts q .left) (q .right)
 
-  pub fair : (ks : List ℕ) → 3 ≤ length x → inner (length x) (handed x y (whole method) ks) ≡ true →
-      (p : Piece) → One p (piecesOf (length x) (handed x y (whole method) ks)) → Fair x y method p
-  unfolding totalAt
-  fair ks n h = fairs ks 0 end.Free zero (omega arith) (rises-inner (length x) (handed x y (whole method) ks) h) (inl (refl, refl)) refl
+  -- every period is in a sheet
+  reached : (i m : ℕ) → m ≤ length cuts → i < finishOf n cuts m → (j : ℕ) × (j ≤ length cuts) × (startOf cuts j ≤ i) × (i < finishOf n cuts j)
+  reached i zero l h = (0, l, omega arith, h)
+  reached i (suc m) l h =
+      let s : m + 1 ≡ suc m = omega arith in
+      ⊎-elim
+      (λ (u : i < startOf cuts (suc m)).
+      let k : m < length cuts = omega (arith, l) in
+      let e = next-start cuts m ∙ ap (startOf cuts) s in
+      let f = finish-cut n cuts m k in
+      reached i m (omega (arith, l)) (omega (arith, u, e, f)))
+      (λ (u : startOf cuts (suc m) ≤ i). (suc m, l, u, h))
+      (lt-or-le i (startOf cuts (suc m)))
+
+  pub covered : (calls : List Call) → Complete cuts calls → Covers (n - 1) (map (pieceOf n cuts) calls)
+  covered calls all = record {
+    stands = λ p o.
+        let (q, one, e) = map-one (pieceOf n cuts) calls p o in
+        let (a, b) = stretch (q .sheet) (all .only q one) in
+        rw e (record { rising = a; inside = b });
+    given = λ p o. let (q, one, e) = map-one (pieceOf n cuts) calls p o in rw e (node-given (q .sheet) (all .only q one) q refl);
+    period = λ i l.
+        let f = finish-last n cuts (length cuts) refl in
+        let (j, below, a, b) = reached i (length cuts) (le-refl (length cuts)) (omega (arith, l, f)) in
+        let (q, one, e) = all .every j below in
+        (pieceOf n cuts q, one-map (pieceOf n cuts) calls q one, rw e a, rw e b);
+  }
+
+  -- a sheet that is handed the whole's numbers
+  module _ (method : ConvexMonotone) (j : ℕ) (l : j ≤ length cuts) where
+    abbrev own : Piece
+    own = pieceOf n cuts (handed x y method cuts j)
+
+    left-end : ((own .from ≡ 0) × (own .left ≡ end.Free)) ⊎ ((0 < own .from) × (own .left ≡ end.Given (nodeAt x y (whole method) (own .from))))
+    left-end = by (lt-or-le 0 j)
+      where
+        by : (0 < j) ⊎ (j ≤ 0) → ((own .from ≡ 0) × (own .left ≡ end.Free)) ⊎ ((0 < own .from) × (own .left ≡ end.Given (nodeAt x y (whole method) (own .from))))
+        by (inl u) =
+            let z : j ≡ 0 → ⊥ = λ e. omega (arith, u) in
+            let (a, _) = cut-fits cuts n (t .inner) (j - 1) (omega (arith, l, u)) in
+            let s : j - 1 + 1 ≡ j = omega (arith, u) in
+            let w : getD cuts (j - 1) 0 ≡ startOf cuts j = next-start cuts (j - 1) ∙ ap (startOf cuts) s in
+            inr (omega (arith, a, w), rw (ne-eqb j 0 z))
+        by (inr u) = let e = eq-eqb j 0 (omega (arith, u)) in inl (rw e, rw e)
+
+    right-end : ((own .to ≡ n - 1) × (own .right ≡ end.Free)) ⊎ ((own .to < n - 1) × (own .right ≡ end.Given (nodeAt x y (whole method) (own .to))))
+    right-end = by (lt-or-le j (length cuts))
+      where
+        by : (j < length cuts) ⊎ (length cuts ≤ j) →
+            ((own .to ≡ n - 1) × (own .right ≡ end.Free)) ⊎ ((own .to < n - 1) × (own .right ≡ end.Given (nodeAt x y (whole method) (own .to))))
+        by (inl u) =
+            let z : j ≡ length cuts → ⊥ = λ e. omega (arith, u) in
+            let (_, b) = cut-fits cuts n (t .inner) j u in
+            let e = finish-cut n cuts j u in
+            inr (omega (arith, b, e), rw (ne-eqb j (length cuts) z))
+        by (inr u) = let e : j ≡ length cuts = omega (arith, l, u) in inl (finish-last n cuts j e, rw (eq-eqb j (length cuts) e))
+
+    pub fair : Fair x y method own
+    fair = let (a, b) = stretch j l in record { rising = a; inside = b; left-end = left-end; right-end = right-end; total = refl }

@@ -27,24 +27,25 @@ use Rattle.assembly.specs.Making.{after}
 use Rattle.assembly.specs.Sections.{tagAt, slotAt, tailOf}
 use Rattle.assembly.specs.declared.sections.Tail.{Tail}
 use Rattle.sheets.specs.Sheet.{noneGiven}
-use Rattle.sheets.specs.Pieces.{Piece, whole, Fair, pieceVerdict, pieceOutcome, answerOf}
-use Rattle.sheets.specs.InSheets.{startOf, cutFits, cutsFit}
-use Rattle.sheets.specs.Steps.{leftEnd, Ready, pieceOfWhole}
+use Rattle.sheets.specs.Pieces.{Piece, whole, answerOf}
+use Rattle.sheets.specs.Cuts.{startOf, cutFits, cutsFit}
+use Rattle.sheets.specs.Steps.{leftEnd, Fair, Ready, pieceOfWhole}
 use Rattle.sheets.specs.declared.sheet.SheetEnd.{SheetEnd}
 use Rattle.sheets.specs.declared.sheet.SheetBuilt.{SheetBuilt}
 use Rattle.sheets.specs.declared.sheet.SheetBuilt.the-variants as sheet-built
-use Rattle.sheets.proofs.Cuts.{Stands}
+use Rattle.sheets.proofs.Cuts.{Stands, given-left, cut-fits, next-start}
 use Rattle.sheets.proofs.SameCurve.{after-one, same-answer}
-use Rattle.sheets.proofs.Strokes.{Stretch, One, stroke, strokes, strokes-all, from-start}
-use Rattle.sheets.proofs.Together.{Table, piece-accepted, sound-part}
+use Rattle.sheets.proofs.Strokes.{Stretch, stroke, strokes, strokes-all, from-start}
+use Rattle.sheets.specs.SameCurve.{One, isSheet}
+use Rattle.sheets.proofs.Together.{Table, pieceVerdict, pieceOutcome, piece-accepted, sound-part}
 
 -- one sheet of a table that is sound, on buffers with room for all of it
 module _ (x y : List Float) (method : ConvexMonotone) (b : Buffers) (ready : Ready x y method b) (p : Piece) (f : Fair x y method p) (g : noneGiven (p .left) (p .right) ≡ false) where
   t : Table x y
   t = record { same = ready .sound .same; low = ready .low }
 
-  stands : Stands 0 (length x - 1) p
-  stands = record { after = zero-le; rising = f .rising; inside = f .inside }
+  stands : Stands (length x - 1) p
+  stands = record { rising = f .rising; inside = f .inside }
 
   pub taken : pieceVerdict x y method p b ≡ verdict.Accepted
   taken = piece-accepted x y method b t (ready .room) p stands g (sound-part x y method t (ready .sound) p stands)
@@ -52,10 +53,6 @@ module _ (x y : List Float) (method : ConvexMonotone) (b : Buffers) (ready : Rea
   abbrev inSheet : SheetEnd → SheetBuilt → SheetEnd
   inSheet d (sheet-built.Sheet s) = s
   inSheet d (sheet-built.Refused r) = d
-
-  abbrev isBuilt : SheetBuilt → Bool
-  isBuilt (sheet-built.Sheet s) = true
-  isBuilt (sheet-built.Refused r) = false
 
   answers : pieceOutcome x y method p b .answer ≡ sheet-built.Sheet (answerOf (p .right) (totalAt x y (whole method) (p .to)) (tailOf x y (whole method)))
   answers = same-answer x y method t p f b taken
@@ -69,7 +66,7 @@ module _ (x y : List Float) (method : ConvexMonotone) (b : Buffers) (ready : Rea
       ∙ ap (ends (pieceOfWhole x y method p b .answer)) (ap (λ (q : Outcome SheetBuilt). q .buffers) e ∙ after-one x y method t p f b taken)
 
   pub not-refused : {A : Type 0} (r : Refusal) (o : Outcome SheetBuilt) → o ≡ pieceOutcome x y method p b → o .answer ≡ sheet-built.Refused r → A
-  not-refused r o e h = never (refl {a = true}) (ap isBuilt (sym answers ∙ sym (ap (λ (q : Outcome SheetBuilt). q .answer) e) ∙ h))
+  not-refused r o e h = never (refl {a = true}) (ap isSheet (sym answers ∙ sym (ap (λ (q : Outcome SheetBuilt). q .answer) e) ∙ h))
 
 -- a stretch that starts within what is filled, or right behind it
 module _ {A : Type 0} (d : A) (g : ℕ → A) (w from count n : ℕ) (xs : List A) (u : from ≤ w) (v : w ≤ n) (e : from + count ≡ n) (l : n ≤ length xs) where
@@ -107,20 +104,6 @@ reach-bounds from = by (eqb from 0) (eqb-true from 0)
 pub reach-inner : (from : ℕ) → 0 < from → reach from ≡ from + 1
 reach-inner from h = let e : from ≡ 0 → ⊥ = λ z. omega arith in rw (ne-eqb from 0 e)
 
--- where the sheets start
-module _ (cuts : List ℕ) (n : ℕ) (h : cutsFit cuts n ≡ true) where
-  pub cut-fits : (j : ℕ) → j < length cuts → (startOf cuts j < getD cuts j 0) × (getD cuts j 0 < n - 1)
-  unfolding cutsFit
-  cut-fits j l =
-      let p = and-split (ltb (startOf cuts j) (getD cuts j 0)) (ltb (getD cuts j 0) (n - 1)) (all-at (length cuts) (cutFits cuts n) h j l) in
-      (ltb-true (startOf cuts j) (getD cuts j 0) (p .0), ltb-true (getD cuts j 0) (n - 1) (p .1))
-
-pub next-start : (cuts : List ℕ) (j : ℕ) → getD cuts j 0 ≡ startOf cuts (j + 1)
-next-start cuts j =
-    let e : j + 1 ≡ 0 → ⊥ = λ z. omega arith in
-    let s : j + 1 - 1 ≡ j = omega arith in
-    rw (ne-eqb (j + 1) 0 e, s)
-
 -- a cut that is not above the one before, one that is not inside, and one that fits
 module _ (cuts : List ℕ) (n j before cut : ℕ) where
   pub cut-low : before ≡ startOf cuts j → cut ≡ getD cuts j 0 → cut ≤ before → cutFits cuts n j ≡ false
@@ -152,13 +135,6 @@ module _ (x y : List Float) (method : ConvexMonotone) (nodes old : List Float) (
                 ∙ ap (λ (ns : List Float). end.Given (at ns from)) (e ∙ ap (λ (w : ℕ). overlay 0 w (nodeAt x y (whole method)) old) (reach-inner from p))
                 ∙ ap end.Given (from-start (nodeAt x y (whole method)) nan old (from + 1) from (omega arith) (omega arith)),
           )
-
-pub given-right : (l : End) (g : Float) → noneGiven l (end.Given g) ≡ false
-given-right end.Free g = refl
-given-right (end.Given h) g = refl
-
-pub given-left : (r : End) (l : End) (g : Float) → l ≡ end.Given g → noneGiven l r ≡ false
-given-left r l g e = rw e
 
 total-of : (r : End) (total : Float) (t : Tail) → answerOf r total t .total ≡ total
 total-of end.Free total t = refl

@@ -4,7 +4,7 @@ pub mod Cuts
 pub mod Together
 pub mod SameCurve
 pub mod InOrder
-pub mod Called
+pub mod Demand
 pub mod Figures
 pub mod Unique
 pub mod Parts

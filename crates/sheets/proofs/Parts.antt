@@ -61,10 +61,16 @@ module _ (x y : List Float) (method : ConvexMonotone) (l r : End) where
         let s = numbers-sound h in
         settled h ∙ sym (only-room (length x) (length y) (nodes - place) (tags - place) (slots - slotCount * place) (ap not (eq-eqb (length x) (length y) (s .same))) (le-ltb (length x) 2 (s .low)))
 
-    -- an accepted sheet is sound; and one that is sound, has a given node and has room is accepted
+    passed : first (sheetTests x y method l r place nodes tags slots) ≡ verdict.Accepted →
+        (first (numbersTests x y method l r) ≡ verdict.Accepted) × (first (roomTests (length x) (nodes - place) (tags - place) (slots - slotCount * place)) ≡ verdict.Accepted)
+    passed h = both-accept _ _ (sym (first-append (numbersTests x y method l r) (roomTests (length x) (nodes - place) (tags - place) (slots - slotCount * place))) ∙ h)
+
+    -- an accepted sheet is sound and has room; and one that is sound, has a given node and has room is accepted
     pub sheet-sound : first (sheetTests x y method l r place nodes tags slots) ≡ verdict.Accepted → Sound x y method
-    sheet-sound h =
-        numbers-sound (both-accept _ _ (sym (first-append (numbersTests x y method l r) (roomTests (length x) (nodes - place) (tags - place) (slots - slotCount * place))) ∙ h) .0)
+    sheet-sound h = numbers-sound (passed h .0)
+
+    pub sheet-room : first (sheetTests x y method l r place nodes tags slots) ≡ verdict.Accepted → Room (length x) (nodes - place) (tags - place) (slots - slotCount * place)
+    sheet-room h = room (length x) (nodes - place) (tags - place) (slots - slotCount * place) (passed h .1)
 
     pub sheet-accepts : noneGiven l r ≡ false → Sound x y method → Room (length x) (nodes - place) (tags - place) (slots - slotCount * place) →
         first (sheetTests x y method l r place nodes tags slots) ≡ verdict.Accepted

@@ -1,6 +1,5 @@
--- Demand 3. A table of 3 to 4,096 points, cut into sheets at any inner knots, each sheet given the whole's nodes at its cuts and the total before it: the sheets
--- are all accepted exactly when the whole is (`together`), and then in whatever order they are built they leave every buffer as the whole build does
--- (`same-curve`), and each answers the total that the next one starts from, the last one the whole's tail (`same-answer`).
+-- Sheets that cover a table, each handed the whole's numbers, in whatever order they are built and however often: they leave every buffer as the whole build does
+-- (`same-curve`), and each answers the whole's total at its end and, where no node is given for its right end, the whole's tail (`same-answers`).
 use Prim.Native.Nat.{ℕ, _+_, _-_, _*_, _/_, _≤_, _<_}
 use native.Mathlib.Omega.{arith}
 use mathlib.Core.Bool.{true, false}
@@ -29,14 +28,16 @@ use Rattle.curve.specs.Build.{wholeFrame, curveOf}
 use Rattle.curve.specs.declared.curve.Built.{Built}
 use Rattle.curve.specs.declared.curve.Built.the-variants as built
 use Rattle.sheets.specs.Sheet.{sheetFrame, noTail, endOf}
-use Rattle.sheets.specs.Pieces.{Piece, whole, wholeAt, Fair, part, piecesOf, inner, handed, pieceVerdict, pieceOutcome, afterPiece, afterAll, AllAccepted, wholeVerdict, wholeOutcome, afterWhole, answerOf}
+use Rattle.sheets.specs.Pieces.{Piece, whole, part, answerOf}
+use Rattle.sheets.specs.SameCurve.{RoomFor, One}
+use Rattle.sheets.specs.Steps.{Fair, wholeAt}
 use Rattle.sheets.specs.declared.sheet.SheetEnd.{SheetEnd}
 use Rattle.sheets.specs.declared.sheet.SheetBuilt.{SheetBuilt}
 use Rattle.sheets.specs.declared.sheet.SheetBuilt.the-variants as sheet-built
 use Rattle.sheets.proofs.Alike.{points, nodes-same, tags-same, slots-same, total-after, tail-same}
-use Rattle.sheets.proofs.Cuts.{Stands, given, fair}
-use Rattle.sheets.proofs.Strokes.{Stretch, One, stroke, strokes, strokes-all}
-use Rattle.sheets.proofs.Together.{Table, RoomIn, whole-sound, piece-accepted, sound-part, standing, period, knot, room-after, all-accepted}
+use Rattle.sheets.proofs.Cuts.{Stands, Covers, one-map, map-one}
+use Rattle.sheets.proofs.Strokes.{Stretch, stroke, strokes, strokes-all}
+use Rattle.sheets.proofs.Together.{Table, pieceVerdict, pieceOutcome, afterPiece, answersOf, afterAll, wholeVerdict, wholeOutcome, whole-sound, taken, knot, room-after}
 
 -- where a sheet writes
 abbrev nodeStretch : Piece → Stretch
@@ -47,16 +48,6 @@ tagStretch p = record { start = p .from; count = p .to - p .from }
 
 abbrev slotStretch : Piece → Stretch
 slotStretch p = record { start = slotCount * p .from; count = slotCount * (p .to - p .from) }
-
-one-map : {A B : Type 0} (f : A → B) (l : List A) (a : A) → One a l → One (f a) (map f l)
-one-map f [] a o = absurd o
-one-map f (b ∷ l) a (inl e) = inl (ap f e)
-one-map f (b ∷ l) a (inr o) = inr (one-map f l a o)
-
-map-one : {A B : Type 0} (f : A → B) (l : List A) (c : B) → One c (map f l) → (a : A) × One a l × (c ≡ f a)
-map-one f [] c o = absurd o
-map-one f (b ∷ l) c (inl e) = (b, inl refl, e)
-map-one f (b ∷ l) c (inr o) = let q = map-one f l c o in (q .0, inr (q .1), q .2)
 
 abbrev ending : Float → Tail → SheetEnd
 ending total t = record { total = total; tail = t }
@@ -93,7 +84,6 @@ module _ (x y : List Float) (method : ConvexMonotone) (table : Table x y) where
               (λ k l. slots-same x y method (table .low) (table .same) p f k l),
         )
 
-    -- 3
     pub same-answer : pieceOutcome x y method p b .answer ≡ sheet-built.Sheet (answerOf (p .right) (totalAt x y G (p .to)) (tailOf x y G))
     same-answer = rw (h, by-end)
       where
@@ -119,82 +109,76 @@ module _ (x y : List Float) (method : ConvexMonotone) (table : Table x y) where
     slots = strokes (slotAt x y G) (map slotStretch ps) (b .slots);
   }
 
-  painted : (ps : List Piece) (b : Buffers) → RoomIn x b → ((p : Piece) → One p ps → Fair x y method p) →
-      ((p : Piece) → One p ps → (c : Buffers) → RoomIn x c → pieceVerdict x y method p c ≡ verdict.Accepted) → afterAll x y method ps b ≡ paint ps b
+  painted : (ps : List Piece) (b : Buffers) → RoomFor x b → ((p : Piece) → One p ps → Fair x y method p) →
+      ((p : Piece) → One p ps → (c : Buffers) → RoomFor x c → pieceVerdict x y method p c ≡ verdict.Accepted) → afterAll x y method ps b ≡ paint ps b
   unfolding afterAll strokes
   painted [] b r f h = refl
   painted (p ∷ ps) b r f h =
       painted ps (afterPiece x y method p b) (room-after x y method p b r) (λ q o. f q (inr o)) (λ q o. h q (inr o))
       ∙ ap (paint ps) (after-one p (f p (inl refl)) b (h p (inl refl) b r))
 
-  -- 1 and 2, for the sheets in any order: a list that has every sheet, and nothing else
-  module _ (ks : List ℕ) (i : inner (length x) (handed x y G ks) ≡ true) (b : Buffers) (room : RoomIn x b) (w : wholeVerdict x y method b ≡ verdict.Accepted) where
-    abbrev pieces : List Piece
-    pieces = piecesOf (length x) (handed x y G ks)
+  -- what a sheet of the whole answers
+  abbrev pub answering : Tail → Piece → SheetBuilt
+  answering t p = sheet-built.Sheet (answerOf (p .right) (totalAt x y G (p .to)) t)
 
-    pub taken : (p : Piece) → One p pieces → (c : Buffers) → RoomIn x c → pieceVerdict x y method p c ≡ verdict.Accepted
-    taken p o c r =
-        let t = standing x y method table (handed x y G ks) i p o in
-        piece-accepted x y method c table r p t (given (length x) (handed x y G ks) i p o) (sound-part x y method table (whole-sound x y method b table room w) p t)
+  answered : (ps : List Piece) (b : Buffers) → RoomFor x b → ((p : Piece) → One p ps → Fair x y method p) →
+      ((p : Piece) → One p ps → (c : Buffers) → RoomFor x c → pieceVerdict x y method p c ≡ verdict.Accepted) → answersOf x y method ps b ≡ map (answering (tailOf x y G)) ps
+  unfolding answersOf
+  answered [] b r f h = refl
+  answered (p ∷ ps) b r f h =
+      ap (λ (a : SheetBuilt). a ∷ answersOf x y method ps (afterPiece x y method p b)) (same-answer p (f p (inl refl)) b (h p (inl refl) b r))
+      ∙ ap (λ (l : List SheetBuilt). answering (tailOf x y G) p ∷ l) (answered ps (afterPiece x y method p b) (room-after x y method p b r) (λ q o. f q (inr o)) (λ q o. h q (inr o)))
 
-    module _ (ps : List Piece) (every : (p : Piece) → One p pieces → One p ps) (only : (p : Piece) → One p ps → One p pieces) where
-      pub any-order : AllAccepted x y method ps b
-      any-order = all-accepted x y method table ps b room (λ p o. taken p (only p o))
+  module _ (b : Buffers) (w : wholeVerdict x y method b ≡ verdict.Accepted) where
+    pub after-whole : wholeOutcome x y method b .buffers ≡ after 0 x y G b
+    after-whole =
+        ap (λ (o : Outcome Built). o .buffers) (left-new (wholeVerdict x y method b) built.Refused b _ (wholeOutcome x y method b) refl w)
+        ∙ ap (λ (frame : Frame). after 0 x y frame b) whole-frame
 
-      stretch-of : (g : Piece → Stretch) (n : ℕ) → ((p : Piece) → Stands 0 (length x - 1) p → g p .start + g p .count ≤ n) → (s : Stretch) → One s (map g ps) → s .start + s .count ≤ n
-      stretch-of g n h s o = let q = map-one g ps s o in rw (q .2) (h (q .0) (standing x y method table (handed x y G ks) i (q .0) (only (q .0) (q .1))))
+    -- the whole's tail is that of `tailOf` above
+    pub whole-answer : wholeOutcome x y method b .answer ≡ built.Curve (record { sections = length x - 1; held = false; extrapolates = false; tail = tailOf x y G })
+    unfolding curveOf
+    whole-answer = rw (w, whole-frame)
+
+    module _ (room : RoomFor x b) (ps : List Piece) (all : Covers (length x - 1) ps) (fairs : (p : Piece) → One p ps → Fair x y method p) where
+      none-refused : (p : Piece) → One p ps → (c : Buffers) → RoomFor x c → pieceVerdict x y method p c ≡ verdict.Accepted
+      none-refused = taken x y method table ps all (whole-sound x y method b table room w)
+
+      stretch-of : (g : Piece → Stretch) (n : ℕ) → ((p : Piece) → Stands (length x - 1) p → g p .start + g p .count ≤ n) → (s : Stretch) → One s (map g ps) → s .start + s .count ≤ n
+      stretch-of g n h s o = let q = map-one g ps s o in rw (q .2) (h (q .0) (all .stands (q .0) (q .1)))
 
       all-nodes : strokes (nodeAt x y G) (map nodeStretch ps) (b .nodes) ≡ overlay 0 (length x) (nodeAt x y G) (b .nodes)
       all-nodes =
           strokes-all (nodeAt x y G) nan (map nodeStretch ps) (b .nodes) (length x) (room .in-nodes)
           (stretch-of nodeStretch (length x) (λ p t. (let u = t .rising in let v = t .inside in let n = table .low in omega (arith, u, v, n))))
           (λ j l.
-          let q = knot x y method table (handed x y G ks) i j l in
+          let q = knot x y method table ps all j l in
           let u = q .2 in
           let v = q .3 in
-          (nodeStretch (q .0), one-map nodeStretch ps (q .0) (every (q .0) (q .1)), (u, omega (arith, u, v))))
+          (nodeStretch (q .0), one-map nodeStretch ps (q .0) (q .1), (u, omega (arith, u, v))))
 
       all-tags : strokes (tagAt x y G) (map tagStretch ps) (b .tags) ≡ overlay 0 (length x - 1) (tagAt x y G) (b .tags)
       all-tags =
           strokes-all (tagAt x y G) 0 (map tagStretch ps) (b .tags) (length x - 1) (room .in-tags)
           (stretch-of tagStretch (length x - 1) (λ p t. (let u = t .rising in let v = t .inside in omega (arith, u, v))))
           (λ j l.
-          let q = period x y method table (handed x y G ks) i j l in
+          let q = all .period j l in
           let u = q .2 in
           let v = q .3 in
-          (tagStretch (q .0), one-map tagStretch ps (q .0) (every (q .0) (q .1)), (u, omega (arith, u, v))))
+          (tagStretch (q .0), one-map tagStretch ps (q .0) (q .1), (u, omega (arith, u, v))))
 
       all-slots : strokes (slotAt x y G) (map slotStretch ps) (b .slots) ≡ overlay 0 (slotCount * (length x - 1)) (slotAt x y G) (b .slots)
       all-slots =
           strokes-all (slotAt x y G) nan (map slotStretch ps) (b .slots) (slotCount * (length x - 1)) (room .in-slots)
           (stretch-of slotStretch (slotCount * (length x - 1)) (λ p t. (let u = t .rising in let v = t .inside in omega (arith, u, v))))
           (λ j l.
-          let q = period x y method table (handed x y G ks) i (j / slotCount) (omega (arith, l)) in
+          let q = all .period (j / slotCount) (omega (arith, l)) in
           let u = q .2 in
           let v = q .3 in
-          (slotStretch (q .0), one-map slotStretch ps (q .0) (every (q .0) (q .1)), (omega (arith, u), omega (arith, u, v))))
+          (slotStretch (q .0), one-map slotStretch ps (q .0) (q .1), (omega (arith, u), omega (arith, u, v))))
 
-      unfoldable filled : Buffers
-      filled = after 0 x y G b
+      pub same-curve : afterAll x y method ps b ≡ wholeOutcome x y method b .buffers
+      same-curve = rw (painted ps b room fairs none-refused, all-nodes, all-tags, all-slots) (sym after-whole)
 
-      by-whole : afterWhole x y method b ≡ filled
-      unfolding filled
-      by-whole =
-          ap (λ (o : Outcome Built). o .buffers) (left-new (wholeVerdict x y method b) built.Refused b _ (wholeOutcome x y method b) refl w)
-          ∙ ap (λ (frame : Frame). after 0 x y frame b) whole-frame
-
-      by-sheets : afterAll x y method ps b ≡ filled
-      unfolding filled
-      by-sheets = rw (painted ps b room (λ p o. fair x y method ks (table .low) i p (only p o)) (λ p o. taken p (only p o)), all-nodes, all-tags, all-slots)
-
-      pub same-curve : afterAll x y method ps b ≡ afterWhole x y method b
-      same-curve = by-sheets ∙ sym by-whole
-
-    -- in order
-    pub in-order : afterAll x y method pieces b ≡ afterWhole x y method b
-    in-order = same-curve pieces (λ p o. o) (λ p o. o)
-
-    -- the whole's tail is that of `tailOf` above
-    pub whole-tail : wholeOutcome x y method b .answer ≡ built.Curve (record { sections = length x - 1; held = false; extrapolates = false; tail = tailOf x y G })
-    unfolding curveOf
-    whole-tail = rw (w, whole-frame)
+      pub same-answers : answersOf x y method ps b ≡ map (answering (tailOf x y G)) ps
+      same-answers = answered ps b room fairs none-refused

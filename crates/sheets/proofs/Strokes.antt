@@ -11,6 +11,7 @@ use lib.Seq.{ext-getD}
 use Rattle.numbers.specs.Overlay.{overlay}
 use Rattle.numbers.proofs.Overlay.{length-overlay, overlay-inside, overlay-outside}
 use Rattle.numbers.proofs.Ways.{lt-or-le}
+use Rattle.sheets.specs.SameCurve.{One}
 
 -- `count` entries from `start` on
 pub record Stretch : Type 0 where
@@ -19,11 +20,6 @@ pub record Stretch : Type 0 where
 
 abbrev pub Has : Stretch → ℕ → Type 0
 Has s i = (s .start ≤ i) × (i < s .start + s .count)
-
--- a stretch of the list
-abbrev pub One : {A : Type 0} → A → List A → Type 0
-One a [] = ⊥
-One a (b ∷ bs) = (a ≡ b) ⊎ One a bs
 
 module _ {A : Type 0} (g : ℕ → A) where
   abbrev pub stroke : Stretch → List A → List A
@@ -42,7 +38,7 @@ module _ {A : Type 0} (g : ℕ → A) where
   strokes-length (s ∷ ss) xs = strokes-length ss (stroke s xs) ∙ stroke-length s xs
 
   module _ (d : A) where
-    stroke-in : (s : Stretch) (xs : List A) (i : ℕ) → s .start + s .count ≤ length xs → Has s i → getD (stroke s xs) i d ≡ g i
+    pub stroke-in : (s : Stretch) (xs : List A) (i : ℕ) → s .start + s .count ≤ length xs → Has s i → getD (stroke s xs) i d ≡ g i
     stroke-in s xs i h e =
         let lo = e .0 in
         let hi = e .1 in
@@ -51,7 +47,7 @@ module _ {A : Type 0} (g : ℕ → A) where
         ∙ overlay-inside (s .start) (s .count) (λ k. g (s .start + k)) xs (i - s .start) d (omega arith) h
         ∙ ap g j
 
-    stroke-out : (s : Stretch) (xs : List A) (i : ℕ) → (Has s i → ⊥) → getD (stroke s xs) i d ≡ getD xs i d
+    pub stroke-out : (s : Stretch) (xs : List A) (i : ℕ) → (Has s i → ⊥) → getD (stroke s xs) i d ≡ getD xs i d
     stroke-out s xs i h =
         overlay-outside (s .start) (s .count) (λ k. g (s .start + k)) xs i d
         (⊎-elim

@@ -1,4 +1,6 @@
-pub mod Pieces
-pub mod Steps
-pub mod InSheets
 pub mod Sheet
+pub mod Cuts
+pub mod Pieces
+pub mod SameCurve
+pub mod InSheets
+pub mod Steps

@@ -23,9 +23,10 @@ ghost use Rattle.table.specs.Table.{nodeAt};
 ghost use Rattle.assembly.specs.Making.{after};
 ghost use Rattle.assembly.specs.Sections.{tailOf};
 ghost use Rattle.sheets.specs.Sheet.{noneGiven};
-ghost use Rattle.sheets.specs.Pieces.{whole, Fair};
-ghost use Rattle.sheets.specs.InSheets.{cutsFit, inSheetsOutcome};
-ghost use Rattle.sheets.specs.Steps.{leftEnd, Ready, pieceOfWhole};
+ghost use Rattle.sheets.specs.Pieces.{whole};
+ghost use Rattle.sheets.specs.Cuts.{cutsFit};
+ghost use Rattle.sheets.specs.InSheets.{inSheetsOutcome};
+ghost use Rattle.sheets.specs.Steps.{leftEnd, Fair, Ready, pieceOfWhole};
 
 fn less_one(n: usize) -> usize
     ensures { λ r. ⌜ r ≡ n - 1 ⌝ }

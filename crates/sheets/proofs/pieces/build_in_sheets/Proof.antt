@@ -24,7 +24,8 @@ use Rattle.curve.specs.Build.{buildVerdict, buildOutcome, wholeFrame, curveOf}
 use Rattle.curve.specs.declared.curve.Built.{Built}
 use Rattle.curve.specs.declared.curve.Built.the-variants as built
 use Rattle.curve.proofs.Accepted.{accepted-sound, accepted-room}
-use Rattle.sheets.specs.InSheets.{cutsFit, inSheetsOutcome}
+use Rattle.sheets.specs.Cuts.{cutsFit}
+use Rattle.sheets.specs.InSheets.{inSheetsOutcome}
 use Rattle.sheets.specs.Steps.{Ready}
 use Rattle.sheets.proofs.InOrder.{three}
 use Rattle.sheets.proofs.SameCurve.{whole-frame}

@@ -8,7 +8,8 @@ use Rattle.numbers.proofs.Overlay.{length-overlay}
 use Rattle.table.specs.Buffers.{Outcome, buffers}
 use Rattle.table.specs.declared.ends.End.the-variants as end
 use Rattle.sheets.specs.declared.sheet.SheetEnd.{SheetEnd}
-use Rattle.sheets.proofs.InOrder.{Progress, at-first, nodes-length, tags-length, slots-length, still-ready, in-nodes, above, inside, fair-next, onward, given-right, fair-last, given-last, all-written}
+use Rattle.sheets.proofs.Cuts.{given-right}
+use Rattle.sheets.proofs.InOrder.{Progress, at-first, nodes-length, tags-length, slots-length, still-ready, in-nodes, above, inside, fair-next, onward, fair-last, given-last, all-written}
 use Rattle.sheets.proofs.pieces.build_sheets.Statement.{statement}
 use Rattle.sheets.proofs.pieces.build_sheets.Tie as tie
 

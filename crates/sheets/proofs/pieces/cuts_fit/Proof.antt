@@ -9,8 +9,9 @@ use lib.Dec.{ltb}
 use lib.ListN.{length, getD}
 use Rattle.numbers.specs.Every.{allBelow}
 use Rattle.numbers.proofs.Every.{all-none, all-more, all-fails}
-use Rattle.sheets.specs.InSheets.{startOf, cutFits, cutsFit}
-use Rattle.sheets.proofs.InOrder.{next-start, cut-low, cut-high, cut-here}
+use Rattle.sheets.specs.Cuts.{startOf, cutFits, cutsFit}
+use Rattle.sheets.proofs.Cuts.{next-start}
+use Rattle.sheets.proofs.InOrder.{cut-low, cut-high, cut-here}
 use Rattle.sheets.proofs.pieces.cuts_fit.Statement.{statement}
 use Rattle.sheets.proofs.pieces.cuts_fit.Tie as tie
 
