@@ -160,7 +160,7 @@ uint8_t havgrunel_build_in_sheets(
  * The price at x, or the total of all prices up to x, into answer[0]. Knots, tags, slots and the three numbers of the tail are those of a curve
  * that was built; `extrapolate` allows an x outside the knots.
  *
- * Refused in the order 4, 5, 7, 10, 11, 12, 13, 15; an `answer` with no entry is an 11 that comes after all of these.
+ * Refused in the order 4, 5, 7, 10, 11 (also for an `answer` with no entry), 12, 13, 15.
  */
 uint8_t havgrunel_value(
     const double *knots, size_t knots_count,
@@ -208,7 +208,7 @@ uint8_t havgrunel_derivative(double x);
 /*
  * The 24 slots of section `number`, counted from 0, of a curve of `points` points, into the first 24 entries of `into`. Its tag is tags[number].
  *
- * Refused in the order 4, 10, 11 for short slots, 15 for a number that no section has, and 11 for an `into` of fewer than 24 entries.
+ * Refused in the order 4, 10, 11 (also for an `into` of fewer than 24 entries), 15 for a number that no section has.
  */
 uint8_t havgrunel_record(
     size_t points,
@@ -220,7 +220,7 @@ uint8_t havgrunel_record(
  * What the section of one record answers by itself, whatever x is: answer[0] is its value at x, answer[1] its primitive at x, answer[2] the node
  * that it ends on. The slots are the record's own, 24 of them.
  *
- * Refused by 15 for a tag that is not legal or fewer than 24 slots, then by 11 for an `answer` of fewer than 3 entries.
+ * Refused by 11 for an `answer` of fewer than 3 entries, then by 15 for a tag that is not legal or fewer than 24 slots.
  */
 uint8_t havgrunel_section(
     uint16_t tag,

@@ -267,6 +267,7 @@ static void refused_queries(void)
     CHECK(build(&three, false, &c) == 0);
     const double level[] = {0.0, 1.0, 1.0};
     const double infinite[] = {0.0, 1.0, INFINITY};
+    const uint16_t no_kinds[] = {0, 0};
     struct table t = three;
     t.knots_count = 1;
     CHECK(refuses(&t, &c, false, NAN, HAVGRUNEL_TOO_FEW_POINTS));
@@ -280,7 +281,14 @@ static void refused_queries(void)
     CHECK(havgrunel_value(three_knots, 3, c.tags, 1, c.slots, 48, 0.0, 0.0, 0.0, false, 0.5, &v, 1) == HAVGRUNEL_BUFFER_TOO_SHORT);
     CHECK(havgrunel_value(three_knots, 3, c.tags, 2, c.slots, 47, 0.0, 0.0, 0.0, false, 0.5, &v, 1) == HAVGRUNEL_BUFFER_TOO_SHORT);
     CHECK(havgrunel_primitive(three_knots, 3, c.tags, 2, c.slots, 48, 0.0, 0.0, 0.0, false, 0.5, NULL, 0) == HAVGRUNEL_BUFFER_TOO_SHORT);
-    CHECK(havgrunel_primitive(three_knots, 3, c.tags, 2, c.slots, 48, 0.0, 0.0, 0.0, false, 9.5, NULL, 0) == HAVGRUNEL_QUERY_OUTSIDE);
+    /* A short answer is an 11 and stands where 11 stands: after 4, 5, 7 and 10, before 12, 13 and 15. */
+    CHECK(havgrunel_primitive(three_knots, 1, c.tags, 2, c.slots, 48, 0.0, 0.0, 0.0, false, NAN, NULL, 0) == HAVGRUNEL_TOO_FEW_POINTS);
+    CHECK(havgrunel_value(infinite, 3, c.tags, 2, c.slots, 48, 0.0, 0.0, 0.0, false, NAN, NULL, 0) == HAVGRUNEL_KNOT_NOT_FINITE);
+    CHECK(havgrunel_primitive(level, 3, c.tags, 2, c.slots, 48, 0.0, 0.0, 0.0, false, NAN, NULL, 0) == HAVGRUNEL_KNOTS_NOT_RISING);
+    CHECK(havgrunel_value(three_knots, 3, c.tags, 2, c.slots, 48, 0.0, 0.0, 0.0, false, NAN, NULL, 0) == HAVGRUNEL_BUFFER_TOO_SHORT);
+    CHECK(havgrunel_primitive(three_knots, 3, c.tags, 2, c.slots, 48, 0.0, 0.0, 0.0, false, 9.5, NULL, 0) == HAVGRUNEL_BUFFER_TOO_SHORT);
+    CHECK(havgrunel_value(three_knots, 3, no_kinds, 2, c.slots, 48, 0.0, 0.0, 0.0, false, 0.5, NULL, 0) == HAVGRUNEL_BUFFER_TOO_SHORT);
+    CHECK(havgrunel_value(three_knots, 3, no_kinds, 2, c.slots, 48, 0.0, 0.0, 0.0, false, 0.5, &v, 1) == HAVGRUNEL_RECORD_NOT_LEGAL);
     CHECK(same(v, -1.0));
 
     /* a record that is not legal is read only where a query needs it */
@@ -320,13 +328,17 @@ static void records(void)
     CHECK(havgrunel_record(1, c.slots, SLOTS, 0, into, 25) == HAVGRUNEL_TOO_FEW_POINTS);
     CHECK(havgrunel_record(4097, c.slots, SLOTS, 0, into, 25) == HAVGRUNEL_TOO_MANY_POINTS);
     CHECK(havgrunel_record(3, c.slots, 47, 0, into, 25) == HAVGRUNEL_BUFFER_TOO_SHORT);
-    CHECK(havgrunel_record(3, c.slots, 48, 2, into, 0) == HAVGRUNEL_RECORD_NOT_LEGAL);
+    CHECK(havgrunel_record(3, c.slots, 48, 2, into, 25) == HAVGRUNEL_RECORD_NOT_LEGAL);
+    CHECK(havgrunel_record(3, c.slots, 48, 2, into, 0) == HAVGRUNEL_BUFFER_TOO_SHORT);
+    CHECK(havgrunel_record(1, c.slots, SLOTS, 2, into, 0) == HAVGRUNEL_TOO_FEW_POINTS);
+    CHECK(havgrunel_record(4097, c.slots, SLOTS, 2, into, 0) == HAVGRUNEL_TOO_MANY_POINTS);
     CHECK(havgrunel_record(3, c.slots, 48, 0, into, 23) == HAVGRUNEL_BUFFER_TOO_SHORT);
     CHECK(memcmp(into, c.slots + HAVGRUNEL_SLOTS, HAVGRUNEL_SLOTS * sizeof *into) == 0);
 
     double a[3] = {-1.0, -1.0, -1.0};
     CHECK(havgrunel_section(0x0000, c.slots, 24, 0.5, a, 3) == HAVGRUNEL_RECORD_NOT_LEGAL);
-    CHECK(havgrunel_section(0x2000, c.slots, 23, 0.5, a, 0) == HAVGRUNEL_RECORD_NOT_LEGAL);
+    CHECK(havgrunel_section(0x2000, c.slots, 23, 0.5, a, 3) == HAVGRUNEL_RECORD_NOT_LEGAL);
+    CHECK(havgrunel_section(0x0000, c.slots, 24, 0.5, a, 0) == HAVGRUNEL_BUFFER_TOO_SHORT);
     CHECK(havgrunel_section(0x2000, c.slots, 24, 0.5, a, 2) == HAVGRUNEL_BUFFER_TOO_SHORT);
     CHECK(same(a[0], -1.0) && same(a[1], -1.0) && same(a[2], -1.0));
 }

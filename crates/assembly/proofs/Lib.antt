@@ -3,3 +3,4 @@ pub mod ReadBack
 pub mod Rows
 pub mod Sizes
 pub mod Unique
+pub mod InNumbers

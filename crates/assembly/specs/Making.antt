@@ -5,9 +5,11 @@ use mathlib.Core.List.{List, _∷_}
 use lib.Dec.{eqb, ltb}
 use lib.Ieee.{Float}
 use lib.ListN.{length}
+use Rattle.numbers.specs.OneOutcome.{pair}
 use Rattle.numbers.specs.Overlay.{overlay}
 use Rattle.numbers.specs.Sizes.{slotCount}
-use Rattle.refusal.specs.Refusal.{Test, first, _⇒_}
+use Rattle.numbers.specs.Words.{zero}
+use Rattle.refusal.specs.Refusal.{Test, first, number, _⇒_}
 use Rattle.refusal.specs.declared.Refusal.the-variants.{LengthsDiffer, TooFewPoints}
 use Rattle.refusal.specs.declared.Verdict.{Verdict}
 use Rattle.table.specs.Buffers.{Buffers, Outcome, judged}
@@ -17,6 +19,7 @@ use Rattle.table.specs.declared.ends.Frame.{Frame}
 use Rattle.assembly.specs.Sections.{tagAt, slotAt, tailOf}
 use Rattle.assembly.specs.declared.making.Made.{Made}
 use Rattle.assembly.specs.declared.making.Made.the-variants as made
+use Rattle.assembly.specs.declared.sections.Tail.{Tail}
 
 -- 1, 4, 10 and 11, for so many knots and averages and lent buffers of these lengths
 abbrev pub sizeTests : ℕ → ℕ → ℕ → ℕ → ℕ → List Test
@@ -39,6 +42,11 @@ module _ (p : ℕ) (x y : List Float) (frame : Frame) where
   abbrev pub after : Buffers → Buffers
   after b = record { nodes = nodesAfter (b .nodes); tags = tagsAfter (b .tags); slots = slotsAfter (b .slots) }
 
-  -- what is made where the verdict on the sizes is v
+  -- what `make` answers and leaves where the verdict on the sizes is v
   abbrev pub madeFrom : Verdict → Buffers → Outcome Made
   madeFrom v b = judged v made.Refused b (record { answer = made.Tail (tailOf x y frame); buffers = after b })
+
+-- in the documents' numbers: the refusal's, or 0, with the tail
+abbrev pub madeInNumbers : Made → ℕ × Tail
+madeInNumbers (made.Tail t) = pair 0 t
+madeInNumbers (made.Refused r) = pair (number r) (record { value = zero; total = zero; from = zero })

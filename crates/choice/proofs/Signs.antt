@@ -1,15 +1,13 @@
 -- What the tests know of each other.
 use Prim.Native.Nat.{ℕ, _+_, _*_}
 use native.Mathlib.Omega.{arith}
-use mathlib.Core.Bool.{Bool, true, false, not, _&&_, _||_, and-true}
+use mathlib.Core.Bool.{Bool, true, false, not, _&&_, _||_}
 use mathlib.Core.Path.{_≡_, refl}
 use lib.Dec.{eqb}
-use borrow.Author.Tests.{lt-ltb, le-ltb, eqb-true}
-use lib.Ieee.{Float, nan, inf, fin, binary64, lt, le, eq, below, level, neg, up, down, ofBits}
-use lib.Ieee.Fits.{down-pos}
-use Rattle.numbers.specs.Words.{zero, tiny, abs}
+use borrow.Author.Tests.{le-ltb, eqb-true}
+use lib.Ieee.{Float, nan, inf, fin, lt, le, eq, below, level, up, down, ofBits}
+use Rattle.numbers.specs.Words.{zero}
 use Rattle.numbers.proofs.Signs.{plus-is-not-below}
-use Rattle.choice.specs.Regions.{isTiny}
 
 -- no number is both above and below 0.0
 pub not-below : (x : Float) → lt zero x ≡ true → lt x zero ≡ false
@@ -26,15 +24,6 @@ other-false false b f h = refl
 
 pub not-above : (x : Float) → lt x zero ≡ true → lt zero x ≡ false
 not-above x h = other-false (lt zero x) (lt x zero) (not-below x) h
-
--- a number without its sign is below 1.0e-14 exactly when the number lies between the two
-pub tiny-sides : (x : Float) → isTiny x ≡ (lt (neg tiny) x && lt x tiny)
-unfolding lt ofBits neg abs
-tiny-sides nan = refl
-tiny-sides (inf true) = refl
-tiny-sides (inf false) = refl
-tiny-sides (fin true m e) = rw (lt-ltb 0 (m * up e * 633825300114114700748351602688 + 6338253001141147 * down e) (omega (arith, down-pos e)), and-true)
-tiny-sides (fin false m e) = rw (lt-ltb 0 (6338253001141147 * down e + m * up e * 633825300114114700748351602688) (omega (arith, down-pos e)))
 
 -- no number is both less than another and equal to it
 first-true : (a b : Bool) → (a && b) ≡ true → a ≡ true

@@ -3,11 +3,10 @@
 ghost use mathlib.Core.Path.{_≡_};
 ghost use Rattle.choice.specs.Regions.{isTiny, flat, minFits, inFirst, inSecond, inThird};
 
-// Two comparisons take the place of an absolute value.
 fn is_tiny(g: f64) -> bool
     ensures { λ r. ⌜ r ≡ isTiny g ⌝ }
 {
-    g > -1.0e-14 && g < 1.0e-14
+    numbers::abs(g) < 1.0e-14
 }
 
 pub(crate) fn is_flat(g_prev: f64, g_next: f64) -> bool

@@ -1,3 +1,2 @@
 pub mod Unique
-pub mod Figures
 pub mod Laws

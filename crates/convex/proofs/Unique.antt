@@ -1,5 +1,5 @@
 -- Any two outcomes that a contract allows are the same, of each contract as the checker reads it.
-use mathlib.Core.Path.{_≡_, _∙_, sym}
+use mathlib.Core.Path.{_∙_, sym}
 use Rattle.numbers.specs.OneOutcome.{OneAnswer}
 use Rattle.convex.proofs.convex_monotone2.ConvexMonotone2.new.Reads as convex-monotone2-new
 use Rattle.convex.proofs.convex_monotone2.ConvexMonotone2.value.Reads as convex-monotone2-value

@@ -56,9 +56,9 @@ module _ (x y : List Float) (method : ConvexMonotone) (seam : Seam) (nodes tags 
       ∙ rw (first-append (tableTests x y method) (seamTest seam (length x) ∷ []), is-sound x y method s, f) (has-room (length x) nodes tags slots r)
 
 -- an answer in numbers
-pub told-curve : (b : Built) (c : Curve) → b ≡ built.Curve c → record { refusal = 0; sections = c .sections; tail = c .tail } ≡ curveInNumbers b
+pub told-curve : (b : Built) (c : Curve) → b ≡ built.Curve c → record { refusal = 0; sections = c .sections; held = c .held; extrapolates = c .extrapolates; tail = c .tail } ≡ curveInNumbers b
 told-curve b c e = rw e
 
 pub told-no-curve : (b : Built) (r : Refusal) (n : ℕ) → b ≡ built.Refused r → n ≡ number r →
-    record { refusal = n; sections = 0; tail = record { value = zero; total = zero; from = zero } } ≡ curveInNumbers b
+    record { refusal = n; sections = 0; held = false; extrapolates = false; tail = record { value = zero; total = zero; from = zero } } ≡ curveInNumbers b
 told-no-curve b r n e f = rw (e, f)

@@ -1,5 +1,5 @@
 -- 01, Refusal numbers; Queries, settings and growth: what a build answers, also in numbers.
-use mathlib.Core.Bool.{Bool}
+use mathlib.Core.Bool.{Bool, false}
 use Rattle.numbers.specs.Words.{zero}
 use Rattle.refusal.specs.Refusal.{number}
 use Rattle.curve.specs.declared.curve.Curve.{Curve}
@@ -10,7 +10,7 @@ use Rattle.curve.specs.declared.curve.CurveInNumbers.{CurveInNumbers}
 abbrev pub withExtrapolation : Curve → Bool → Curve
 withExtrapolation c allow = record { sections = c .sections; held = c .held; extrapolates = allow; tail = c .tail }
 
--- a refusal's number, or 0, with the section count and the tail
+-- in the documents' numbers: the refusal's, or 0, with all that a curve has
 abbrev pub curveInNumbers : Built → CurveInNumbers
-curveInNumbers (built.Curve c) = record { refusal = 0; sections = c .sections; tail = c .tail }
-curveInNumbers (built.Refused r) = record { refusal = number r; sections = 0; tail = record { value = zero; total = zero; from = zero } }
+curveInNumbers (built.Curve c) = record { refusal = 0; sections = c .sections; held = c .held; extrapolates = c .extrapolates; tail = c .tail }
+curveInNumbers (built.Refused r) = record { refusal = number r; sections = 0; held = false; extrapolates = false; tail = record { value = zero; total = zero; from = zero } }

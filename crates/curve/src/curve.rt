@@ -31,6 +31,8 @@ impl Curve {
 pub struct CurveInNumbers {
     pub refusal: u8,
     pub sections: usize,
+    pub held: bool,
+    pub extrapolates: bool,
     pub tail: Tail,
 }
 
@@ -44,12 +46,16 @@ impl Built {
                 CurveInNumbers {
                     refusal: 0,
                     sections: curve.sections,
+                    held: curve.held,
+                    extrapolates: curve.extrapolates,
                     tail,
                 }
             }
             Built::Refused(refusal) => CurveInNumbers {
                 refusal: refusal.number(),
                 sections: 0,
+                held: false,
+                extrapolates: false,
                 tail: Tail {
                     value: 0.0,
                     total: 0.0,

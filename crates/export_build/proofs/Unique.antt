@@ -1,5 +1,5 @@
 -- Any two outcomes that a contract allows are the same, of each contract as the checker reads it.
-use mathlib.Core.Path.{_≡_, _∙_, sym}
+use mathlib.Core.Path.{_∙_, sym}
 use denote.Ref.{now}
 use Rattle.numbers.specs.OneOutcome.{OneAnswer, OneOutcome}
 use Rattle.export_build.specs.Building.{across}

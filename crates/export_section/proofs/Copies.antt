@@ -1,50 +1,70 @@
 -- A record across the boundary: what is returned and written of it, case by case.
-use Prim.Native.Nat.{ℕ, _*_, _≤_}
+use Prim.Native.Nat.{ℕ, _-_, _*_, _≤_}
 use native.Mathlib.Omega.{arith}
-use mathlib.Core.Bool.{true, false}
-use mathlib.Core.List.{List}
-use mathlib.Core.Path.{_≡_, sym, ap, _∙_}
-use lib.Dec.{ltb}
+use mathlib.Core.Bool.{Bool, true, false, _||_}
+use mathlib.Core.List.{List, [], _∷_}
+use mathlib.Core.Path.{_≡_, refl, sym, ap, _∙_}
+use borrow.Author.Tests.{ltb-false, lt-leb}
+use lib.Dec.{ltb, leb}
 use lib.Ieee.{Float}
 use lib.ListN.{length, set, take, drop, length-take, length-drop}
 use Rattle.numbers.specs.OneOutcome.{pair}
 use Rattle.numbers.specs.Sizes.{slotCount}
 use Rattle.section.specs.Section as section
 use Rattle.section.specs.declared.section.Section.{Section}
-use Rattle.record.specs.Reader.{recordTests, recordVerdict, recordPart}
-use Rattle.refusal.specs.Refusal.{first, number, andThen}
+use Rattle.record.specs.Reader.{recordVerdict, recordPart}
+use Rattle.refusal.specs.Refusal.{first, number, verdictNumber, andThen, _⇒_}
 use Rattle.record.specs.declared.reading.Found.{Found}
 use Rattle.record.specs.declared.reading.Found.the-variants as found
 use Rattle.refusal.specs.declared.Refusal.{Refusal}
-use Rattle.refusal.specs.declared.Refusal.the-variants.{BufferTooShort, RecordNotLegal}
+use Rattle.refusal.specs.declared.Refusal.the-variants.{TooFewPoints, TooManyPoints, BufferTooShort, RecordNotLegal}
 use Rattle.refusal.specs.declared.Verdict.{Verdict}
 use Rattle.refusal.specs.declared.Verdict.the-variants as verdict
-use Rattle.refusal.proofs.First.{first-append}
 use Rattle.record.proofs.InRange.{in-range}
-use Rattle.export_section.specs.Records.{copied, roomTest, copyVerdict, copiedBy, sectionInto}
+use Rattle.export_section.specs.Records.{copied, copyVerdict, copiedBy, sectionInto}
 
--- a record's own answers: not legal, no room for them, or written
+-- a record's own answers: no room for them, not legal, or written
 module _ (f : Found) (x : Float) (old : List Float) where
-  pub section-illegal : (n : ℕ) → f ≡ found.Illegal → n ≡ number RecordNotLegal → pair n old ≡ sectionInto f x old
-  section-illegal n e h = rw (e, h)
+  pub section-short : (n : ℕ) → ltb (length old) 3 ≡ true → n ≡ number BufferTooShort → pair n old ≡ sectionInto f x old
+  section-short n h k = rw (h, k)
 
-  pub section-short : (s : Section) (n : ℕ) → f ≡ found.Section s → ltb (length old) 3 ≡ true → n ≡ number BufferTooShort → pair n old ≡ sectionInto f x old
-  section-short s n e h k = rw (e, h, k)
+  pub section-illegal : (n : ℕ) → ltb (length old) 3 ≡ false → f ≡ found.Illegal → n ≡ number RecordNotLegal → pair n old ≡ sectionInto f x old
+  section-illegal n h e k = rw (h, e, k)
 
-  pub section-written : (s : Section) (v p w : Float) → f ≡ found.Section s → ltb (length old) 3 ≡ false → v ≡ section.value s x → p ≡ section.primitive s x → w ≡ section.«f_next» s →
+  pub section-written : (s : Section) (v p w : Float) → ltb (length old) 3 ≡ false → f ≡ found.Section s → v ≡ section.value s x → p ≡ section.primitive s x → w ≡ section.«f_next» s →
       pair 0 (set (set (set old 0 v) 1 p) 2 w) ≡ sectionInto f x old
-  section-written s v p w e h ev ep ew = rw (e, h, ev, ep, ew)
+  section-written s v p w h e ev ep ew = rw (h, e, ev, ep, ew)
 
--- the record's own refusals come first, and then its copy's room
+or-none-right : (b : Bool) → (b || false) ≡ b
+or-none-right true = refl
+or-none-right false = refl
+
+-- a refusal of the curve's own comes before that of a short copy, and a number past the last after it
 module _ (points : ℕ) (slots : List Float) (place : ℕ) (into : List Float) where
-  pub barred : (r : Refusal) → recordVerdict points (length slots) place ≡ verdict.Refused r → copyVerdict points slots place into ≡ verdict.Refused r
-  barred r e = first-append (recordTests points (length slots) place) (roomTest into) ∙ ap (λ (v : Verdict). andThen v (first (roomTest into))) e
+  -- with room for the copy, the tests are those of the record
+  pub roomy : ltb (length into) slotCount ≡ false → copyVerdict points slots place into ≡ recordVerdict points (length slots) place
+  roomy h =
+      ap (λ (short : Bool). first ((ltb points 2 ⇒ TooFewPoints) ∷ (ltb 4096 points ⇒ TooManyPoints) ∷ (short ⇒ BufferTooShort) ∷ (leb (points - 1) place ⇒ RecordNotLegal) ∷ []))
+      (ap (λ (b : Bool). ltb (length slots) (slotCount * (points - 1)) || b) h ∙ or-none-right (ltb (length slots) (slotCount * (points - 1))))
 
-  pub unroomed : recordVerdict points (length slots) place ≡ verdict.Accepted → ltb (length into) slotCount ≡ true → copyVerdict points slots place into ≡ verdict.Refused BufferTooShort
-  unroomed e h = first-append (recordTests points (length slots) place) (roomTest into) ∙ ap (λ (v : Verdict). andThen v (first (roomTest into))) e ∙ rw h
+  abbrev shortOf : Verdict → ℕ
+  shortOf v = verdictNumber (andThen v (verdict.Refused BufferTooShort))
 
-  pub passes : recordVerdict points (length slots) place ≡ verdict.Accepted → ltb (length into) slotCount ≡ false → copyVerdict points slots place into ≡ verdict.Accepted
-  passes e h = first-append (recordTests points (length slots) place) (roomTest into) ∙ ap (λ (v : Verdict). andThen v (first (roomTest into))) e ∙ rw h
+  by-tests : (few many short past beyond : Bool) → (few ≡ false → past ≡ false) →
+      pair (shortOf (first ((few ⇒ TooFewPoints) ∷ (many ⇒ TooManyPoints) ∷ (short ⇒ BufferTooShort) ∷ (past ⇒ RecordNotLegal) ∷ []))) into
+      ≡ copiedBy points slots place into (first ((few ⇒ TooFewPoints) ∷ (many ⇒ TooManyPoints) ∷ (short || true ⇒ BufferTooShort) ∷ (beyond ⇒ RecordNotLegal) ∷ []))
+  by-tests true many short past beyond h = refl
+  by-tests false true short past beyond h = refl
+  by-tests false false true past beyond h = refl
+  by-tests false false false past beyond h = rw (h refl)
+
+  -- with none, the first section's verdict tells all that comes before
+  pub unroomed : ltb (length into) slotCount ≡ true → (n : ℕ) → n ≡ shortOf (recordVerdict points (length slots) 0) → pair n into ≡ copiedBy points slots place into (copyVerdict points slots place into)
+  unroomed h n e =
+      ap (λ (m : ℕ). pair m into) e
+      ∙ by-tests (ltb points 2) (ltb 4096 points) (ltb (length slots) (slotCount * (points - 1))) (leb (points - 1) 0) (leb (points - 1) place)
+      (λ f. let low = ltb-false points 2 f in lt-leb (points - 1) 0 (omega (arith, low)))
+      ∙ rw h
 
   pub copy-refused : (v : Verdict) (r : Refusal) (n : ℕ) → v ≡ verdict.Refused r → n ≡ number r → pair n into ≡ copiedBy points slots place into v
   copy-refused v r n e h = rw (e, h)

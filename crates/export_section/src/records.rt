@@ -11,6 +11,8 @@ ghost use Prim.Native.Nat.{_≤_};
 ghost use lib.ListN.{length};
 ghost use Rattle.numbers.specs.OneOutcome.{pair};
 ghost use Rattle.record.specs.Reading.{readSection};
+ghost use Rattle.record.specs.Reader.{recordVerdict};
+ghost use Rattle.refusal.specs.Refusal.{verdictNumber, andThen};
 ghost use Rattle.export_section.specs.Records.{copied, copyVerdict, copiedBy, sectionInto};
 
 // So many numbers, from the start of one slice to the start of another.
@@ -20,6 +22,16 @@ pub(crate) fn copy(count: usize, from: &[f64], to: &mut [f64])
 {
     for k in 0..count {
         to[k] = from[k];
+    }
+}
+
+// The refusal of a copy that has no room: one of the curve's own, or that of a short slice. The first section's number is never past the last.
+fn short_refusal(points: usize, slots: &[f64]) -> u8
+    ensures { λ r. ⌜ r ≡ verdictNumber (andThen (recordVerdict points (length (now (slots .entry))) 0) (Verdict.Refused Refusal.BufferTooShort)) ⌝ }
+{
+    match record_verdict(points, slots, 0) {
+        Verdict::Refused(refusal) => refusal.number(),
+        Verdict::Accepted => Refusal::BufferTooShort.number(),
     }
 }
 
@@ -33,12 +45,12 @@ pub extern "C" fn havgrunel_record(
 ) -> u8
     ensures { λ r. ⌜ pair r (now (into .exit)) ≡ copiedBy points (now (slots .entry)) number (now (into .entry)) (copyVerdict points (now (slots .entry)) number (now (into .entry))) ⌝ }
 {
+    if into.len() < SLOTS {
+        return short_refusal(points, slots);
+    }
     match record_verdict(points, slots, number) {
         Verdict::Refused(refusal) => refusal.number(),
         Verdict::Accepted => {
-            if into.len() < SLOTS {
-                return Refusal::BufferTooShort.number();
-            }
             copy(SLOTS, record_slots(points, slots, number), into);
             0
         }
@@ -51,12 +63,12 @@ pub extern "C" fn havgrunel_record(
 pub extern "C" fn havgrunel_section(tag: u16, slots: &[f64], x: f64, answer: &mut [f64]) -> u8
     ensures { λ r. ⌜ pair r (now (answer .exit)) ≡ sectionInto (readSection tag (now (slots .entry))) x (now (answer .entry)) ⌝ }
 {
+    if answer.len() < 3 {
+        return Refusal::BufferTooShort.number();
+    }
     match read_section(tag, slots) {
         Found::Illegal => Refusal::RecordNotLegal.number(),
         Found::Section(section) => {
-            if answer.len() < 3 {
-                return Refusal::BufferTooShort.number();
-            }
             answer[0] = section.value(x);
             answer[1] = section.primitive(x);
             answer[2] = section.f_next();

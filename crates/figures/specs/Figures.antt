@@ -23,7 +23,6 @@ use Rattle.table.specs.declared.ends.End.the-variants as end
 use Rattle.table.specs.declared.ends.Seam.{Seam}
 use Rattle.table.specs.declared.ends.Seam.the-variants as seam
 use Rattle.table.specs.declared.method.ConvexMonotone.{ConvexMonotone}
-use Rattle.choice.specs.declared.period.Period.{Period}
 use Rattle.choice.specs.Choice.{sectionOf}
 use Rattle.curve.specs.Build.{buildVerdict, buildOutcome}
 use Rattle.curve.specs.Curve.{curveInNumbers, withExtrapolation}

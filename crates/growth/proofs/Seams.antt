@@ -1,7 +1,7 @@
 -- What a growing curve carries over, case by case.
 use Prim.Native.Nat.{ℕ, _+_, _-_, _*_, _≤_, _<_}
 use native.Mathlib.Omega.{arith}
-use mathlib.Core.Bool.{Bool, true, false, _||_}
+use mathlib.Core.Bool.{true, false, _||_}
 use mathlib.Core.List.{List}
 use mathlib.Core.Logic.{⊎-elim}
 use mathlib.Core.Path.{_≡_, sym, _∙_}
@@ -14,7 +14,6 @@ use Rattle.numbers.proofs.Ways.{or-none, lt-or-le}
 use Rattle.section.specs.Section.{«f_next»}
 use Rattle.section.specs.declared.section.Section.{Section}
 use Rattle.record.specs.Reading.{readSection}
-use Rattle.record.specs.declared.reading.Found.{Found}
 use Rattle.record.specs.declared.reading.Found.the-variants as found
 use Rattle.refusal.specs.declared.Refusal.{Refusal}
 use Rattle.refusal.specs.declared.Refusal.the-variants.{NoPreviousCurve, RecordNotLegal}

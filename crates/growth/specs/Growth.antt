@@ -1,13 +1,16 @@
 -- 01, Refusal numbers: growth; Queries, settings and growth
 use Prim.Native.Nat.{ℕ, _+_, _-_, _*_}
-use mathlib.Core.Bool.{Bool, cond, not, _||_}
-use mathlib.Core.List.{List}
+use mathlib.Core.Bool.{Bool, true, false, cond, not, _&&_, _||_}
+use mathlib.Core.List.{List, [], _∷_}
 use lib.Dec.{eqb, ltb}
 use lib.Ieee.{Float}
 use lib.ListN.{length, take, drop, getD}
 use Rattle.section.specs.Section.{«f_next»}
-use Rattle.record.specs.Reading.{readSection}
+use Rattle.record.specs.Reading.{readSection, isSection}
+use Rattle.numbers.specs.OneOutcome.{pair}
 use Rattle.numbers.specs.Sizes.{slotCount}
+use Rattle.numbers.specs.Words.{zero}
+use Rattle.refusal.specs.Refusal.{Test, number, _⇒_}
 use Rattle.record.specs.declared.reading.Found.{Found}
 use Rattle.record.specs.declared.reading.Found.the-variants as found
 use Rattle.refusal.specs.declared.Refusal.the-variants.{NoPreviousCurve, RecordNotLegal}
@@ -57,6 +60,29 @@ seamOfPrevious (previous.Curve curve) tags slots = seamOf curve tags slots
 -- the window comes first: inside it nothing is asked of a previous curve
 abbrev pub carriedAt : ℕ → ℕ → Previous → List ℕ → List Float → Carried
 carriedAt points localisation p tags slots = cond (firstWindow points localisation) (carried.Seam seam.Absent) (seamOfPrevious p tags slots)
+
+-- the refusals of a previous curve in their order: past the first window 9, then 15
+abbrev pub noneBefore : Previous → Bool
+noneBefore previous.Absent = true
+noneBefore (previous.Curve curve) = eqb (curve .sections) 0
+
+abbrev pub unreadable : Previous → List ℕ → List Float → Bool
+unreadable previous.Absent tags slots = false
+unreadable (previous.Curve curve) tags slots =
+    beyond (curve .sections) (length tags) (length slots)
+    || (not (eqb (retained curve) 0) && not (isSection (readSection (getD tags (retained curve - 1) 0) (take slotCount (drop (slotCount * (retained curve - 1)) slots)))))
+
+abbrev pub carryTests : ℕ → ℕ → Previous → List ℕ → List Float → List Test
+carryTests points localisation p tags slots =
+    (not (firstWindow points localisation) && noneBefore p ⇒ NoPreviousCurve)
+    ∷ (not (firstWindow points localisation) && unreadable p tags slots ⇒ RecordNotLegal)
+    ∷ []
+
+-- in the documents' numbers: the refusal's, or 0, whether there is a seam, and its count and node
+abbrev pub carriedInNumbers : Carried → ℕ × (Bool × (ℕ × Float))
+carriedInNumbers (carried.Seam seam.Absent) = pair 0 (pair false (pair 0 zero))
+carriedInNumbers (carried.Seam (seam.At count node)) = pair 0 (pair true (pair count node))
+carriedInNumbers (carried.Refused r) = pair (number r) (pair false (pair 0 zero))
 
 -- the last period is held until the table has its last point
 abbrev pub holds : ℕ → ℕ → Bool

@@ -1,7 +1,7 @@
 -- The one NaN: the patterns that are read as it, and the number that differs from itself.
 use Prim.Native.Nat.{ℕ, _%_, _^_, _*_, _<_, _≤_}
-use mathlib.Core.Bool.{Bool, true, false, not}
-use mathlib.Core.Path.{_≡_, refl, sym, ap, subst, _∙_}
+use mathlib.Core.Bool.{true, false, not}
+use mathlib.Core.Path.{_≡_, refl, sym, _∙_}
 use lib.Dec.{T}
 use borrow.Author.Tests.{lt-ltb, le-ltb}
 use lib.Ieee.{Float, nan, inf, fin, binary64, ne, eq, isNan, nanBits, ofBits}

@@ -1,11 +1,10 @@
 -- The order of numbers goes on: what lies below a number that lies below a third lies below the third.
-use Prim.Native.Nat.{ℕ, _+_, _*_, _<_, _≤_}
+use Prim.Native.Nat.{ℕ, _+_, _*_, _<_}
 use native.Mathlib.Omega.{arith}
-use native.Mathlib.Nat.{mul-pos, mul-right-comm, mul-lt-mul-of-pos-right, lt-of-mul-lt-mul-right, lt-of-lt-of-le, le-of-lt, le-of-eq, zero-mul, eq-zero-or-pos}
+use native.Mathlib.Nat.{mul-pos, mul-right-comm, mul-lt-mul-of-pos-right, lt-of-mul-lt-mul-right, zero-mul, eq-zero-or-pos}
 use mathlib.Core.Bool.{Bool, true, false}
 use mathlib.Core.Logic.{⊎-elim}
 use mathlib.Core.Path.{_≡_, refl, subst}
-use lib.Dec.{ltb}
 use lib.Ieee.{Float, nan, inf, fin, lt, below, up, down}
 use lib.Ieee.Fits.{down-pos}
 use borrow.Author.Tests.{ltb-true, lt-ltb}

@@ -1,7 +1,7 @@
 -- The laws of `overlay`. Every layer that fills a lent buffer cites these.
 use Prim.Native.Nat.{ℕ, zero, suc, _+_, _≤_, _<_}
 use native.Mathlib.Omega.{arith}
-use native.Mathlib.Nat.{add-suc, add-zero, add-assoc, add-comm, eq-or-lt-of-le, le-of-suc-le-suc, le-trans, le-suc, le-add-right}
+use native.Mathlib.Nat.{add-suc, add-zero, add-assoc, eq-or-lt-of-le, le-of-suc-le-suc, le-add-right}
 use native.Mathlib.Numerals.{add-one}
 use mathlib.Core.List.{List}
 use mathlib.Core.Logic.{_⊎_, inl, inr, ⊎-elim}

@@ -1,12 +1,12 @@
 -- What a comparison with 0.0 says of a number, case by case.
 use Prim.Native.Nat as nat
 use Prim.Native.Nat.{ℕ, suc, _+_, _*_, _^_, _<_}
-use native.Mathlib.Nat.{mul-one, one-mul, zero-mul, zero-lt-suc, mul-pos, pow-suc}
+use native.Mathlib.Nat.{mul-one, zero-mul, zero-lt-suc, mul-pos, pow-suc}
 use native.Mathlib.Omega.{arith}
-use mathlib.Core.Bool.{Bool, true, false, not, _&&_, _||_, Bool·beq}
-use mathlib.Core.Path.{_≡_, refl, sym, ap, _∙_}
+use mathlib.Core.Bool.{Bool, true, false}
+use mathlib.Core.Path.{_≡_, refl, sym, ap}
 use lib.IntN.{ℤ, pos, negsuc}
-use lib.Dec.{T, ltb, eqb, eqb→eq}
+use lib.Dec.{T, eqb, eqb→eq}
 use lib.Pow.{pow-pos}
 use borrow.Author.Tests.{eq-eqb, ne-eqb, lt-ltb, le-ltb}
 use lib.Ieee.{Float, nan, inf, fin, binary64, lt, eq, neg, up, down, ofBits, fits}

@@ -1,4 +1,5 @@
-// Float words that every layer needs: a test for finiteness, the absolute value, and the way from a float to its bits and back.
+// What every layer needs: of floats a test for finiteness, the absolute value and the way to their bits and back; and how many numbers a section and a
+// record have.
 ghost use mathlib.Core.Path.{_≡_};
 ghost use lib.Ieee.{binary64, ofBits, toBits};
 ghost use Rattle.numbers.specs.Words.{finite, abs};

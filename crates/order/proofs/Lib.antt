@@ -3,3 +3,4 @@ pub mod Lines
 pub mod Queries
 pub mod Texts
 pub mod Unique
+pub mod InNumbers

@@ -1,10 +1,10 @@
 -- A number in so many bytes: one more byte, and how large it can be.
-use Prim.Native.Nat.{ℕ, suc, _+_, _*_, _^_, _≤_, _<_}
+use Prim.Native.Nat.{ℕ, _+_, _*_, _^_, _≤_, _<_}
 use native.Mathlib.Omega.{arith}
 use native.Mathlib.Nat.{pow-suc, pow-le-pow-right}
 use native.Mathlib.Numerals.{add-one}
 use mathlib.Core.List.{List}
-use mathlib.Core.Path.{_≡_, refl, sym, ap, _∙_}
+use mathlib.Core.Path.{_≡_, refl}
 use Rattle.order.specs.Form.{byteAt, numberFrom}
 
 pub none : (o : List ℕ) (at : ℕ) → 0 ≡ numberFrom o at 0

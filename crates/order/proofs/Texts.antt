@@ -2,15 +2,14 @@
 use Prim.Native.Nat.{ℕ, zero, suc, _+_, _-_, _*_, _/_, _%_, _≤_, _<_}
 use native.Mathlib.Omega.{arith}
 use native.Mathlib.Nat.{zero-add}
-use native.Mathlib.Numerals.{add-one}
 use mathlib.Core.Bool.{Bool, true, false, cond, _&&_}
 use mathlib.Core.List.{List, [], _∷_, _++_}
 use mathlib.Core.Path.{_≡_, refl, sym, ap, _∙_}
-use borrow.Author.Tests.{lt-ltb, le-ltb, leb-true, eqb-true}
+use borrow.Author.Tests.{lt-ltb, le-ltb, leb-true}
 use lib.Dec.{ltb, leb, eqb}
 use lib.Ieee.{Float}
-use lib.ListN.{length, getD, set, take, length-set}
-use lib.Seq.{take-suc-set, take-set-le}
+use lib.ListN.{length, set, take}
+use lib.Seq.{take-suc-set}
 use Rattle.numbers.specs.OneOutcome.{pair}
 use Rattle.numbers.specs.Overlay.{overlay}
 use Rattle.numbers.proofs.Every.{and-split}
@@ -18,6 +17,7 @@ use Rattle.numbers.proofs.OneOutcome.{both}
 use Rattle.numbers.proofs.Ways.{never}
 use Rattle.numbers.proofs.Overlay.{overlay-same, overlay-join, length-overlay}
 use Rattle.refusal.specs.Refusal.{number}
+use Rattle.refusal.specs.declared.Refusal.the-variants.{OrderMalformed}
 use Rattle.refusal.specs.declared.Refusal.{Refusal}
 use Rattle.curve.specs.Curve.{withExtrapolation}
 use Rattle.curve.specs.declared.curve.Curve.{Curve}
@@ -137,8 +137,9 @@ module _ (o out : List ℕ) where
   pub too-short : ltb (length out) 2506 ≡ true → pair order-answer.TooShort out ≡ answered o out
   too-short h = rw h
 
-  pub malformed : (new : List ℕ) → ltb (length out) 2506 ≡ false → wellFormed o ≡ false → new ≡ overlay 0 10 (buildByte 17 0) out → pair (order-answer.Text 10) new ≡ answered o out
-  malformed new h f e = rw (h, f) (ap (pair (order-answer.Text 10)) e)
+  pub malformed : (new : List ℕ) (n : ℕ) → ltb (length out) 2506 ≡ false → wellFormed o ≡ false → n ≡ number OrderMalformed → new ≡ overlay 0 10 (buildByte n 0) out →
+      pair (order-answer.Text 10) new ≡ answered o out
+  malformed new n h f g e = rw (h, f) (ap (pair (order-answer.Text 10)) (e ∙ ap (λ (m : ℕ). overlay 0 10 (buildByte m 0) out) g))
 
   abbrev asText : ℕ × List ℕ → OrderAnswer × List ℕ
   asText p = pair (order-answer.Text (p .0)) (p .1)

@@ -1,6 +1,6 @@
 -- 01, The order program: the text that answers an order.
 use Prim.Native.Nat.{ℕ, _+_, _-_, _*_, _/_, _%_}
-use mathlib.Core.Bool.{Bool, false, cond}
+use mathlib.Core.Bool.{cond}
 use mathlib.Core.List.{List}
 use lib.Dec.{ltb}
 use lib.Ieee.{Float, binary64, toBits}
@@ -10,6 +10,7 @@ use Rattle.numbers.specs.Overlay.{overlay}
 use Rattle.numbers.specs.Sizes.{slotCount}
 use Rattle.numbers.specs.Words.{zero}
 use Rattle.refusal.specs.Refusal.{number}
+use Rattle.refusal.specs.declared.Refusal.the-variants.{BufferTooShort, OrderMalformed}
 use Rattle.section.specs.Section.{value, primitive}
 use Rattle.table.specs.Buffers.{Buffers, Outcome, buffers}
 use Rattle.table.specs.declared.ends.Seam.the-variants as seam
@@ -61,10 +62,15 @@ ordered o x y b = buildOutcome x y (method o) (hold o) seam.Absent b
 abbrev pub room : Buffers
 room = buffers (replicate 200 zero) (replicate 200 0) (replicate (200 * slotCount) zero)
 
--- an order's text; one that is not well formed gets refusal 17
+-- an order's text; one that is not well formed gets its refusal
 abbrev pub textOf : List ℕ → List ℕ → ℕ × List ℕ
-textOf o out = cond (wellFormed o) (textFor o (knots o) (ordered o (knots o) (averages o) room) out) (pair 10 (overlay 0 10 (buildByte 17 0) out))
+textOf o out = cond (wellFormed o) (textFor o (knots o) (ordered o (knots o) (averages o) room) out) (pair 10 (overlay 0 10 (buildByte (number OrderMalformed) 0) out))
 
 -- a buffer of fewer bytes than the longest text has is refused, and not written to
 abbrev pub answered : List ℕ → List ℕ → OrderAnswer × List ℕ
 answered o out = cond (ltb (length out) 2506) (pair order-answer.TooShort out) (let text = textOf o out in pair (order-answer.Text (text .0)) (text .1))
+
+-- in the documents' numbers: 0 with the length of the text, or 11 with none
+abbrev pub orderInNumbers : OrderAnswer → ℕ × ℕ
+orderInNumbers (order-answer.Text long) = pair 0 long
+orderInNumbers order-answer.TooShort = pair (number BufferTooShort) 0

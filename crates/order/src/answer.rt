@@ -14,6 +14,7 @@ use curve::build::build;
 use curve::curve::Built;
 use curve::curve::Curve;
 use numbers::SLOTS;
+use refusal::Refusal;
 use table::ends::Seam;
 use table::method::ConvexMonotone;
 ghost use mathlib.Core.Path.{_≡_};
@@ -147,7 +148,7 @@ pub fn answer(order: &[u8], out: &mut [u8]) -> OrderAnswer
         return OrderAnswer::TooShort;
     }
     if !well_formed(order) {
-        put_build(out, 17, 0);
+        put_build(out, wide(Refusal::OrderMalformed.number()), 0);
         return OrderAnswer::Text(10);
     }
     let mut knots = [0.0; 200];

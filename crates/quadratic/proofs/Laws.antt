@@ -2,7 +2,7 @@
 use mathlib.Core.Bool.{Bool, true, false, _||_}
 use mathlib.Core.Path.{_≡_, refl}
 use lib.Ieee.{Float, le, lt}
-use Rattle.numbers.specs.Words.{_⊕_, _⊖_, _⊗_, _⊘_, zero, one}
+use Rattle.numbers.specs.Words.{_⊕_, _⊖_, _⊗_, _⊘_, zero}
 use Rattle.quadratic.specs.declared.quadratic_min.QuadraticMin.{QuadraticMin}
 use Rattle.quadratic.specs.Quadratic as quadratic
 use Rattle.quadratic.specs.QuadraticMin as quadmin

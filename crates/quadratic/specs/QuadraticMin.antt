@@ -1,7 +1,7 @@
 -- 000, QuadraticMinHelper
 use mathlib.Core.Bool.{Bool, true, false, cond, _&&_}
 use lib.Ieee.{Float, le, lt, neg}
-use Rattle.numbers.specs.Words.{_⊕_, _⊖_, _⊗_, _⊘_, zero, one, two, three, four, twentyFour, thirtySix}
+use Rattle.numbers.specs.Words.{_⊕_, _⊖_, _⊗_, _⊘_, zero, one, two, four, twentyFour, thirtySix}
 use Rattle.root.specs.Root.{root}
 use Rattle.quadratic.specs.Parabola.{«a_of», «b_of», under}
 use Rattle.quadratic.specs.declared.quadratic_min.QuadraticMin.{QuadraticMin}

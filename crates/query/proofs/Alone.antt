@@ -8,7 +8,7 @@ use lib.Ieee.{Float, nan}
 use lib.ListN.{length, getD}
 use Rattle.numbers.proofs.Overlay.{overlay-inside}
 use Rattle.section.specs.declared.section.Section.{Section}
-use Rattle.refusal.specs.Refusal.{first, andThen}
+use Rattle.refusal.specs.Refusal.{andThen}
 use Rattle.refusal.specs.declared.Verdict.{Verdict}
 use Rattle.refusal.specs.declared.Verdict.the-variants.{Accepted}
 use Rattle.table.specs.Table.{at}

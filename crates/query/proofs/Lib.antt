@@ -9,3 +9,4 @@ pub mod Answers
 pub mod ReadBack
 pub mod Walk
 pub mod Whole
+pub mod InNumbers

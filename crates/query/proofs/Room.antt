@@ -1,19 +1,18 @@
 -- The verdict on many queries in its three parts, and what it leaves in the buffer.
 use Prim.Native.Nat.{ℕ, _≤_}
-use mathlib.Core.Bool.{Bool, true, false}
-use mathlib.Core.List.{List, [], _∷_, _++_}
-use mathlib.Core.Path.{_≡_, refl, sym, ap, _∙_}
+use mathlib.Core.Bool.{true, false}
+use mathlib.Core.List.{List, [], _∷_}
+use mathlib.Core.Path.{_≡_, sym, ap, _∙_}
 use lib.Dec.{ltb}
 use lib.Ieee.{Float}
-use lib.ListN.{length}
 use borrow.Author.Tests.{ltb-false}
 use Rattle.numbers.specs.OneOutcome.{pair}
-use Rattle.refusal.specs.Refusal.{Test, _⇒_, first, andThen}
+use Rattle.refusal.specs.Refusal.{_⇒_, first, andThen}
 use Rattle.refusal.specs.declared.Refusal.{Refusal}
 use Rattle.refusal.specs.declared.Refusal.the-variants.{BufferTooShort}
 use Rattle.refusal.specs.declared.Verdict.{Verdict}
 use Rattle.refusal.specs.declared.Verdict.the-variants.{Accepted, Refused}
-use Rattle.refusal.proofs.First.{Passed, passed, both-accept, first-append}
+use Rattle.refusal.proofs.First.{passed, both-accept, first-append}
 use Rattle.query.specs.Query.{curveTests}
 use Rattle.query.specs.Many.{manyTests, manyBy}
 

@@ -1,9 +1,10 @@
 -- Any two outcomes that a contract allows are the same, of each contract as the checker reads it.
-use mathlib.Core.Path.{_≡_, _∙_, sym}
+use mathlib.Core.Path.{_∙_, sym}
 use denote.Ref.{now}
 use Rattle.numbers.specs.OneOutcome.{OneAnswer, OneOutcome, pair}
 use Rattle.query.proofs.answer.curve_with.Reads as curve-with
 use Rattle.query.proofs.answer.QueryAnswer.in_numbers.Reads as query-answer-in-numbers
+use Rattle.query.proofs.answer.curve_verdict.Reads as curve-verdict
 use Rattle.query.proofs.answer.derivative.Reads as derivative
 use Rattle.query.proofs.many.values.Reads as values
 use Rattle.query.proofs.many.primitives.Reads as primitives
@@ -30,3 +31,6 @@ value-unique κ a r₁ r₂ s t p q = p ∙ sym q
 
 pub primitive-unique : OneAnswer primitive.Post
 primitive-unique κ a r₁ r₂ s t p q = p ∙ sym q
+
+pub curve-verdict-unique : OneAnswer curve-verdict.Post
+curve-verdict-unique κ a r₁ r₂ s t p q = p ∙ sym q

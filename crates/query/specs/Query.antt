@@ -1,14 +1,13 @@
 -- 01, Queries, settings and growth
 use Prim.Native.Nat as nat
 use Prim.Native.Nat.{ℕ, suc, _+_, _-_, _*_}
-use mathlib.Core.Bool.{Bool, true, false, cond, not, _&&_, _||_}
+use mathlib.Core.Bool.{Bool, false, cond, not, _&&_, _||_}
 use mathlib.Core.List.{List, [], _∷_, _++_}
-use lib.Dec.{eqb, ltb, leb}
+use lib.Dec.{ltb}
 use lib.Ieee.{Float, lt, le, ne}
 use lib.ListN.{length}
 use Rattle.numbers.specs.Words.{zero}
 use Rattle.section.specs.EverywhereConstant as constant
-use Rattle.section.specs.Section as section
 use Rattle.section.specs.declared.section.Section.{Section}
 use Rattle.section.specs.declared.section.Section.the-variants as kind
 use Rattle.record.specs.Reading.{recordAt}
@@ -16,7 +15,6 @@ use Rattle.refusal.specs.Refusal.{Test, _⇒_, first, number}
 use Rattle.numbers.specs.Sizes.{slotCount}
 use Rattle.record.specs.declared.reading.Found.{Found}
 use Rattle.record.specs.declared.reading.Found.the-variants as found
-use Rattle.refusal.specs.declared.Refusal.{Refusal}
 use Rattle.refusal.specs.declared.Refusal.the-variants.{TooFewPoints, KnotNotFinite, KnotsNotRising, TooManyPoints, BufferTooShort, QueryNotANumber, QueryOutside, RecordNotLegal}
 use Rattle.refusal.specs.declared.Verdict.{Verdict}
 use Rattle.refusal.specs.declared.Verdict.the-variants as verdict
@@ -86,7 +84,7 @@ abbrev pub ask : (Section → Float) → Covered → QueryAnswer
 ask f (covered.Section s) = query-answer.Number (f s)
 ask f (covered.Refused r) = query-answer.Refused r
 
--- a refusal's number, or 0, with the answer
+-- in the documents' numbers: the refusal's, or 0, with the answer
 abbrev pub answerInNumbers : QueryAnswer → AnswerInNumbers
 answerInNumbers (query-answer.Number v) = record { refusal = 0; answer = v }
 answerInNumbers (query-answer.Refused r) = record { refusal = number r; answer = zero }

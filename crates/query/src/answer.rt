@@ -86,7 +86,7 @@ fn is_outside(xs: &[f64], curve: Curve, q: f64) -> bool
 }
 
 // What is asked whatever the query: refusals 4, 5, 7, 10 and 11, for lent records of these lengths.
-pub(crate) fn curve_verdict(xs: &[f64], tags: usize, slots: usize) -> Verdict
+pub fn curve_verdict(xs: &[f64], tags: usize, slots: usize) -> Verdict
     ensures { λ r. ⌜ r ≡ first (curveTests (now (xs .entry)) tags slots) ⌝ }
 {
     if xs.len() < 2 {

@@ -1,12 +1,12 @@
 -- A tag is read as a section exactly where it is legal, over all tags; there are 25 legal ones.
 use Prim.Native.Nat.{ℕ, zero, suc, _+_, _*_, _%_, _^_, _≤_, _<_}
 use native.Mathlib.Omega.{arith}
-use mathlib.Core.Bool.{Bool, true, false, cond}
+use mathlib.Core.Bool.{Bool, true, false, cond, _&&_}
 use mathlib.Core.List.{List}
 use mathlib.Core.Logic.{⊎-elim}
 use mathlib.Core.Path.{_≡_, refl, sym, ap, _∙_}
 use native.Mathlib.Nat.{add-zero, add-suc, zero-add}
-use borrow.Author.Tests.{lt-ltb, le-ltb}
+use borrow.Author.Tests.{lt-ltb, le-ltb, lt-leb, le-leb}
 use lib.Ieee.{Float}
 use lib.ListN.{length}
 use Rattle.numbers.specs.Sizes.{fieldCount}
@@ -14,7 +14,7 @@ use Rattle.numbers.proofs.Ways.{never, lt-or-le}
 use Rattle.section.specs.declared.quadratic_part.QuadraticPart.{QuadraticPart}
 use Rattle.section.specs.declared.quadratic_part.QuadraticPart.the-variants as quadratic
 use Rattle.record.specs.Tag.{otherBits, otherKinds, quadraticNamed, otherNamed}
-use Rattle.record.specs.Legal.{alone, beside, pairs, legal}
+use Rattle.record.specs.Legal.{alone, beside, pairs, legal, legalRecord}
 use Rattle.record.specs.Reading.{quadraticIn, quadraticMinIn, quadraticFrom, otherFrom, joined, readSection, isSection}
 use Rattle.record.specs.declared.tag.QuadraticKind.{QuadraticKind}
 use Rattle.record.specs.declared.tag.QuadraticKind.the-variants as quadraticKind
@@ -71,6 +71,14 @@ short-unread t s h = simp (lt-ltb (length s) fieldCount h)
 no-section : (f : Found) → isSection f ≡ false → f ≡ found.Illegal
 no-section (found.Section s) h = never refl h
 no-section found.Illegal h = refl
+
+-- a record is read as a section exactly where it is legal
+pub legal-is-read : (t : ℕ) (s : List Float) → isSection (readSection t s) ≡ legalRecord t s
+legal-is-read t s =
+    ⊎-elim
+    (λ (l : length s < fieldCount). ap isSection (short-unread t s l) ∙ sym (ap (λ (b : Bool). b && legal t) (lt-leb fieldCount (length s) l)))
+    (λ (l : fieldCount ≤ length s). legal-exactly t s l ∙ sym (ap (λ (b : Bool). b && legal t) (le-leb fieldCount (length s) l)))
+    (lt-or-le (length s) fieldCount)
 
 -- an illegal tag reads nothing, however many slots there are
 pub illegal-reads-nothing : (t : ℕ) (s : List Float) → legal t ≡ false → readSection t s ≡ found.Illegal

@@ -1,6 +1,7 @@
 pub mod Unique
 pub mod RoundTrip
 pub mod Legal
+pub mod InNumbers
 pub mod Numbers
 pub mod Cells
 pub mod InRange

@@ -15,7 +15,6 @@ use Rattle.section.specs.declared.section.Section.the-variants as section
 use Rattle.record.specs.Tag.{tagOf}
 use Rattle.record.specs.Slots.{slotsOf}
 use Rattle.record.specs.Reading.{readSection}
-use Rattle.record.specs.declared.reading.Found.{Found}
 use Rattle.record.specs.declared.reading.Found.the-variants as found
 
 abbrev Back : Section → Type 0

@@ -1,6 +1,11 @@
 -- 01, Buffers and section records: which tags are legal
 use Prim.Native.Nat.{ℕ}
-use mathlib.Core.Bool.{Bool, true, false}
+use mathlib.Core.Bool.{Bool, true, false, _&&_}
+use mathlib.Core.List.{List}
+use lib.Dec.{leb}
+use lib.Ieee.{Float}
+use lib.ListN.{length}
+use Rattle.numbers.specs.Sizes.{fieldCount}
 use Rattle.record.specs.Tag.{quadraticNamed, otherNamed}
 use Rattle.record.specs.declared.tag.QuadraticKind.{QuadraticKind}
 use Rattle.record.specs.declared.tag.QuadraticKind.the-variants as quadraticKind
@@ -41,3 +46,7 @@ pairs quadraticKind.Unknown o = false
 -- a code that is not named, a split bit of another kind and a spare bit make a kind unknown
 abbrev pub legal : ℕ → Bool
 legal tag = pairs (quadraticNamed tag) (otherNamed tag)
+
+-- a record is legal where its tag is and its slots are there
+abbrev pub legalRecord : ℕ → List Float → Bool
+legalRecord tag slots = leb fieldCount (length slots) && legal tag

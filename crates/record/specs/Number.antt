@@ -1,6 +1,10 @@
 -- 01, Buffers and section records: the number that a record answers
+use Prim.Native.Nat.{ℕ}
 use lib.Ieee.{Float}
+use Rattle.numbers.specs.OneOutcome.{pair}
 use Rattle.numbers.specs.Words.{zero}
+use Rattle.refusal.specs.Refusal.{number}
+use Rattle.refusal.specs.declared.Refusal.the-variants.{RecordNotLegal}
 use Rattle.section.specs.declared.section.Section.{Section}
 use Rattle.record.specs.declared.reading.Found.{Found}
 use Rattle.record.specs.declared.reading.Found.the-variants as found
@@ -11,6 +15,11 @@ use Rattle.record.specs.declared.number.Answer.the-variants as answer
 abbrev pub answerIn : (Section → Float) → Found → Answer
 answerIn f (found.Section s) = answer.Number (f s)
 answerIn f found.Illegal = answer.Illegal
+
+-- in the documents' numbers: 0 with the number, or 15 with +0.0
+abbrev pub answerInNumbers : Answer → ℕ × Float
+answerInNumbers (answer.Number v) = pair 0 v
+answerInNumbers answer.Illegal = pair (number RecordNotLegal) zero
 
 abbrev pub orZero : Answer → Float
 orZero (answer.Number v) = v

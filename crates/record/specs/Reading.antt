@@ -1,7 +1,7 @@
 -- 01, Buffers and section records: a section from its tag and slots
 use Prim.Native.Nat.{ℕ, _*_}
 use mathlib.Core.Bool.{Bool, true, false, cond}
-use mathlib.Core.List.{List}
+use mathlib.Core.List.{List, []}
 use lib.Dec.{ltb}
 use lib.Ieee.{Float, nan}
 use lib.ListN.{length, getD, take, drop}
@@ -13,17 +13,19 @@ use Rattle.convex.specs.declared.convex_monotone4.ConvexMonotone4.{ConvexMonoto
 use Rattle.convex.specs.declared.convex_monotone4_min.ConvexMonotone4Min.{ConvexMonotone4Min}
 use Rattle.quadratic.specs.declared.quadratic.Quadratic.{Quadratic}
 use Rattle.quadratic.specs.declared.quadratic_min.QuadraticMin.{QuadraticMin}
-use Rattle.section.specs.declared.quadratic_part.QuadraticPart.{QuadraticPart}
 use Rattle.section.specs.declared.quadratic_part.QuadraticPart.the-variants as quadratic
-use Rattle.section.specs.declared.convex_monotone_part.ConvexMonotonePart.{ConvexMonotonePart}
 use Rattle.section.specs.declared.convex_monotone_part.ConvexMonotonePart.the-variants as convex
 use Rattle.section.specs.declared.section.Section.{Section}
 use Rattle.section.specs.declared.section.Section.the-variants as section
 use Rattle.section.specs.Combination as combination
 use Rattle.section.specs.QuadraticPart as quadraticPart
 use Rattle.section.specs.ConvexMonotonePart as convexPart
+use Rattle.numbers.specs.OneOutcome.{pair}
 use Rattle.numbers.specs.Sizes.{fieldCount, slotCount}
-use Rattle.record.specs.Tag.{quadraticNamed, otherNamed}
+use Rattle.refusal.specs.Refusal.{number}
+use Rattle.refusal.specs.declared.Refusal.the-variants.{RecordNotLegal}
+use Rattle.record.specs.Slots.{slotsOf}
+use Rattle.record.specs.Tag.{quadraticNamed, otherNamed, tagOf}
 use Rattle.record.specs.declared.tag.QuadraticKind.{QuadraticKind}
 use Rattle.record.specs.declared.tag.QuadraticKind.the-variants as quadraticKind
 use Rattle.record.specs.declared.tag.OtherKind.{OtherKind}
@@ -144,6 +146,11 @@ readSection tag s =
 abbrev pub isSection : Found → Bool
 isSection (found.Section s) = true
 isSection found.Illegal = false
+
+-- in the documents' numbers: 0 with the section's tag and slots, or 15 with none
+abbrev pub foundInNumbers : Found → ℕ × (ℕ × List Float)
+foundInNumbers (found.Section s) = pair 0 (pair (tagOf s) (slotsOf s))
+foundInNumbers found.Illegal = pair (number RecordNotLegal) (pair 0 [])
 
 -- the record of section i, of all records in a row
 abbrev pub recordAt : List ℕ → List Float → ℕ → Found

@@ -5,8 +5,7 @@ use crate::tag::other_named;
 use crate::tag::quadratic_named;
 use numbers::FIELDS;
 ghost use mathlib.Core.Path.{_≡_};
-ghost use Rattle.record.specs.Reading.{isSection, readSection};
-ghost use Rattle.record.specs.Legal.{alone, beside, pairs};
+ghost use Rattle.record.specs.Legal.{alone, beside, pairs, legalRecord};
 
 // Whether a part of this kind makes a section by itself.
 fn alone(other: OtherKind) -> bool
@@ -55,9 +54,9 @@ fn pairs(quadratic: QuadraticKind, other: OtherKind) -> bool
     }
 }
 
-// Whether a record of this tag and these slots holds a section.
+// Whether a record of this tag and these slots is legal, and so holds a section.
 pub fn legal_in(tag: u16, slots: &[f64]) -> bool
-    ensures { λ r. ⌜ r ≡ isSection (readSection tag (now (slots .entry))) ⌝ }
+    ensures { λ r. ⌜ r ≡ legalRecord tag (now (slots .entry)) ⌝ }
 {
     if slots.len() < FIELDS {
         return false;

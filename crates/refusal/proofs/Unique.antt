@@ -1,5 +1,5 @@
 -- Any two outcomes that a contract allows are the same, of each contract as the checker reads it.
-use mathlib.Core.Path.{_≡_, _∙_, sym}
+use mathlib.Core.Path.{_∙_, sym}
 use Rattle.numbers.specs.OneOutcome.{OneAnswer}
 use Rattle.refusal.proofs.Refusal.number.Reads as refusal-number
 use Rattle.refusal.proofs.Verdict.number.Reads as verdict-number

@@ -2,19 +2,19 @@
 use Prim.Native.Nat as nat
 use Prim.Native.Nat.{ℕ, suc, _+_, _*_, _^_, _<_}
 use native.Mathlib.Omega.{arith}
-use mathlib.Core.Bool.{Bool, true, false, not}
+use mathlib.Core.Bool.{true, false, not}
 use mathlib.Core.Path.{_≡_, refl, sym, ap, subst, _∙_}
 use lib.IntN.{ℤ}
 use lib.Dec.{T}
 use borrow.Author.Tests.{le-ltb}
-use lib.Ieee.{Float, nan, inf, fin, binary64, lt, le, eq, ne, up, down, div, fits, isNan, toBits, ofBits, nanBits}
+use lib.Ieee.{Float, nan, inf, fin, binary64, lt, le, eq, up, down, div, fits, isNan, toBits, ofBits, nanBits}
 use Rattle.numbers.specs.Words.{zero, finite}
 use Rattle.numbers.proofs.Ways.{never}
 use Rattle.numbers.proofs.Signs.{zero-is-zero, nonzero-is-not, minus-is-below, plus-is-not-below}
 use Rattle.root.specs.Root.{root, inUnits}
 use Rattle.root.specs.Steps.{rootBits, unitsOfBits}
 use Rattle.root.specs.Nearest.{Positive}
-use Rattle.root.proofs.Units.{Fit, fit, Parts, parts-of, units-high, k-high, bits-are, units-of-bits}
+use Rattle.root.proofs.Units.{Fit, fit, parts-of, units-high, k-high, bits-are, units-of-bits}
 use Rattle.root.proofs.Result.{result, result-number}
 
 pub root-zero : (a : Float) → eq a zero ≡ true → a ≡ root a

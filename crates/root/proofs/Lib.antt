@@ -10,4 +10,3 @@ pub mod Sides
 pub mod Rounded
 pub mod Returned
 pub mod Unique
-pub mod Figures

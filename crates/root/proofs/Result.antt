@@ -2,14 +2,13 @@
 use Prim.Native.Nat.{ℕ, zero, suc, _+_, _-_, _*_, _/_, _%_, _^_, _≤_, _<_}
 use native.Mathlib.Omega.{arith}
 use native.Mathlib.Nat.{mod-eq-of-lt, add-right-comm}
-use mathlib.Core.Bool.{Bool, true, false, cond, not}
+use mathlib.Core.Bool.{Bool, false}
 use mathlib.Core.Logic.{⊎-elim}
-use mathlib.Core.Path.{_≡_, refl, sym, ap, subst, _∙_}
+use mathlib.Core.Path.{_≡_, refl, ap, subst, _∙_}
 use lib.IntN.{ℤ, pos, negsuc}
-use lib.Dec.{T, leb, ltb, eqb}
 use lib.Count.{trailingZeros}
 use borrow.Author.Tests.{le-leb, lt-leb, ne-eqb, le-ltb}
-use lib.Ieee.{Float, fin, binary64, ofBits, ofFields, odd, minus, nanBits, size}
+use lib.Ieee.{fin, binary64, ofBits, ofFields, odd, minus, nanBits, size}
 use lib.Ieee.Bits.{nanBits-above}
 use lib.Ieee.Digits.{size-le}
 use Rattle.root.specs.Root.{nearestRoot, scaled, pairs, rootOf}

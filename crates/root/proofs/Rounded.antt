@@ -7,8 +7,8 @@ use mathlib.Core.Logic.{⊎-elim}
 use mathlib.Core.Path.{_≡_, refl, sym, ap, subst, _∙_}
 use lib.IntN.{ℤ}
 use lib.Dec.{T, lit<}
-use lib.Pow.{pow-add, pow-pos}
-use lib.Ieee.{Float, nan, inf, fin, binary64, up, down, size, fits, odd, toBits, ofBits}
+use lib.Pow.{pow-add}
+use lib.Ieee.{Float, nan, inf, fin, binary64, up, down, size, fits, toBits, ofBits}
 use lib.Ieee.Bits.{ofBits-toBits, ofBits-fits}
 use lib.Ieee.Exact.{HasValue, odd-sign}
 use lib.Ieee.Fits.{down-pos}

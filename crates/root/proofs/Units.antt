@@ -1,17 +1,17 @@
 -- A positive finite number in units of 2 ^ -1074: its bits, and the units that they stand for.
-use Prim.Native.Nat.{ℕ, zero, suc, _+_, _-_, _*_, _/_, _%_, _^_, _≤_, _<_}
+use Prim.Native.Nat.{ℕ, suc, _+_, _-_, _*_, _/_, _%_, _^_, _≤_, _<_}
 use native.Mathlib.Omega.{arith}
-use native.Mathlib.Nat.{zero-add, mul-assoc, mul-comm, mul-one, one-mul, mul-pos, mul-right-comm, mul-div-cancel, div-one, le-trans, le-of-lt, lt-of-le-of-lt, lt-of-lt-of-le, lt-of-not-le, not-le-of-lt, lt-of-mul-lt-mul-right, mul-lt-mul-of-pos-right, le-div-iff-mul-le, zero-lt-suc, eq-zero-or-pos}
-use mathlib.Core.Bool.{Bool, true, false, cond, _&&_}
+use native.Mathlib.Nat.{zero-add, mul-assoc, mul-one, mul-pos, mul-right-comm, mul-div-cancel, div-one, lt-of-mul-lt-mul-right, mul-lt-mul-of-pos-right, le-div-iff-mul-le, zero-lt-suc, eq-zero-or-pos}
+use mathlib.Core.Bool.{Bool, false, _&&_}
 use mathlib.Core.Logic.{_⊎_, ⊎-elim}
 use mathlib.Core.Path.{_≡_, refl, sym, ap, subst, _∙_}
 use lib.IntN.{ℤ, pos, negsuc}
 use lib.Dec.{T, leb, ltb, eqb, leb→le, ltb→lt}
-use lib.Pow.{pow-pos, pow-add, pow-mono, pow-lt, shl-lt}
+use lib.Pow.{pow-pos, pow-add, shl-lt}
 use borrow.Author.Tests.{lt-ltb, le-ltb}
-use lib.Ieee.{Float, fin, binary64, up, down, size, fits, toBits}
-use lib.Ieee.Digits.{size-le, size-lt, size-reaches}
-use lib.Ieee.Fits.{and-l, and-r, kept-lt, down-pos}
+use lib.Ieee.{fin, binary64, up, down, size, fits, toBits}
+use lib.Ieee.Digits.{size-le, size-reaches}
+use lib.Ieee.Fits.{and-l, and-r, kept-lt}
 use Rattle.root.specs.Root.{inUnits}
 use Rattle.root.specs.Steps.{unitsOfBits}
 use Rattle.root.proofs.Powers.{pow-le-back}

@@ -1,6 +1,6 @@
 -- 01, The square root. `proofs/Rounded.antt` shows that `root` is what document 01 and IEEE 754 ask for.
 use Prim.Native.Nat.{ℕ, zero, suc, _+_, _*_, _/_, _^_}
-use mathlib.Core.Bool.{Bool, true, false, cond}
+use mathlib.Core.Bool.{true, false, cond}
 use lib.IntN.{ℤ}
 use lib.Dec.{leb}
 use lib.Ieee.{Float, nan, inf, fin, up, down, size, odd}

@@ -1,8 +1,7 @@
 -- What the definitions say, as laws over all numbers: NaN, infinities and both zeros included.
-use mathlib.Core.Bool.{Bool, true, false, _||_}
 use mathlib.Core.Path.{_≡_, refl}
-use lib.Ieee.{Float, le, lt}
-use Rattle.numbers.specs.Words.{_⊕_, _⊖_, _⊗_, _⊘_, zero, one}
+use lib.Ieee.{Float}
+use Rattle.numbers.specs.Words.{_⊕_, _⊖_, _⊗_, one}
 use Rattle.section.specs.declared.everywhere_constant.EverywhereConstant.{EverywhereConstant}
 use Rattle.section.specs.declared.constant_grad.ConstantGrad.{ConstantGrad}
 use Rattle.convex.specs.declared.convex_monotone2.ConvexMonotone2.{ConvexMonotone2}

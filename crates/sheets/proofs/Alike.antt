@@ -3,32 +3,26 @@ use Prim.Native.Nat as nat
 use Prim.Native.Nat.{ℕ, suc, _+_, _-_, _*_, _/_, _%_, _≤_, _<_}
 use native.Mathlib.Omega.{arith}
 use native.Mathlib.Nat.{add-zero, add-suc}
-use native.Mathlib.Numerals.{add-one}
-use mathlib.Core.Bool.{Bool, true, false, cond}
 use mathlib.Core.List.{List}
-use mathlib.Core.Logic.{_⊎_, inl, inr, ⊎-elim}
+use mathlib.Core.Logic.{_⊎_, ⊎-elim}
 use mathlib.Core.Path.{_≡_, refl, sym, ap, _∙_}
 use borrow.Author.Tests.{eq-eqb, ne-eqb}
-use lib.Dec.{eqb}
 use lib.Ieee.{Float, nan}
-use lib.ListN.{length, getD, take, drop, length-drop}
+use lib.ListN.{length, getD, drop, length-drop}
 use lib.Seq.{getD-take, getD-drop, length-take-le}
 use Rattle.numbers.specs.Sizes.{slotCount}
-use Rattle.numbers.specs.Words.{zero, _⊕_, _⊖_, _⊗_}
+use Rattle.numbers.specs.Words.{zero}
 use Rattle.numbers.proofs.Ways.{lt-or-le}
-use Rattle.section.specs.Section as section
 use Rattle.section.specs.declared.section.Section.{Section}
 use Rattle.record.specs.Slots.{slotsOf}
 use Rattle.record.specs.Tag.{tagOf}
-use Rattle.table.specs.Table.{at, inner, outer, orGiven, middleAt, second, secondLast, firstNode, lastNode, nodeAt, totalAt}
+use Rattle.table.specs.Table.{at, outer, orGiven, middleAt, second, secondLast, firstNode, lastNode, nodeAt, totalAt}
 use Rattle.table.specs.declared.method.ConvexMonotone.{ConvexMonotone}
 use Rattle.table.specs.declared.ends.End.{End}
 use Rattle.table.specs.declared.ends.End.the-variants as end
 use Rattle.table.specs.declared.ends.Frame.{Frame}
-use Rattle.choice.specs.declared.period.Period.{Period}
 use Rattle.choice.specs.Choice.{sectionOf}
 use Rattle.assembly.specs.Sections.{periodAt, sectionAt, tagAt, slotAt, tailOf}
-use Rattle.assembly.specs.declared.sections.Tail.{Tail}
 use Rattle.assembly.proofs.Places.{node-first, node-last, node-middle}
 use Rattle.sheets.specs.Sheet.{sheetFrame}
 use Rattle.sheets.specs.Pieces.{Piece, part, whole}

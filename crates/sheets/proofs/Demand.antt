@@ -1,8 +1,7 @@
 -- Demand 3 of the functions that run: both statements of `specs/SameCurve.antt` hold of the contracts of `build` and `sheet` as the checker reads them.
 use Prim.Native.Nat.{ℕ, _+_, _-_, _*_, _≤_, _<_}
 use native.Mathlib.Omega.{arith}
-use native.Mathlib.Nat.{zero-add}
-use mathlib.Core.Bool.{Bool, true, false}
+use mathlib.Core.Bool.{Bool, false}
 use mathlib.Core.List.{List, [], _∷_, map}
 use mathlib.Core.Logic.{_⊎_, inl, inr}
 use mathlib.Core.Path.{_≡_, refl, sym, ap, _∙_}
@@ -12,13 +11,11 @@ use borrow.Fn.Kinds as K
 use denote.Triple.Clauses
 use denote.Ref.{now}
 use lib.Ieee.{Float}
-use lib.ListN.{length, getD}
+use lib.ListN.{length}
 use Rattle.numbers.specs.Overlay.{overlay}
 use Rattle.numbers.specs.Sizes.{slotCount}
-use Rattle.numbers.proofs.Overlay.{length-overlay, overlay-inside, overlay-outside}
-use Rattle.refusal.specs.declared.Verdict.the-variants as verdict
 use Rattle.table.specs.Buffers.{Buffers, Outcome, buffers, outcome}
-use Rattle.table.specs.Table.{nodeAt, totalAt}
+use Rattle.table.specs.Table.{nodeAt}
 use Rattle.table.specs.declared.method.ConvexMonotone.{ConvexMonotone}
 use Rattle.table.specs.declared.ends.End.{End}
 use Rattle.table.specs.declared.ends.Seam.{Seam}
@@ -31,18 +28,17 @@ use Rattle.curve.proofs.Accepted.{accepted-room}
 use Rattle.curve.proofs.build.build
 use Rattle.curve.proofs.build.build.Kinds as build-kinds
 use Rattle.curve.proofs.build.build.Reads as build-reads
-use Rattle.sheets.specs.Cuts.{startOf, finishOf}
 use Rattle.sheets.specs.Pieces.{Piece, whole, part}
-use Rattle.sheets.specs.SameCurve.{CutTable, RoomFor, Call, pieceOf, One, Complete, isCurve, tailIn, isSheet, allSheets, handed, answerTo, BuildAllows, SheetAllows, Sheeted, Calls, SameCurve, TakenFrom, SameAnywhere}
+use Rattle.sheets.specs.SameCurve.{CutTable, Call, pieceOf, One, isCurve, tailIn, isSheet, allSheets, handed, answerTo, Calls, SameCurve, TakenFrom, SameAnywhere}
 use Rattle.sheets.specs.Sheet.{sheetOutcome}
 use Rattle.sheets.specs.Steps.{Fair}
 use Rattle.sheets.specs.declared.sheet.SheetBuilt.{SheetBuilt}
 use Rattle.sheets.proofs.Alike.{points}
-use Rattle.sheets.proofs.Cuts.{covered, fair, stretch, map-one}
+use Rattle.sheets.proofs.Cuts.{covered, fair, map-one}
 use Rattle.sheets.proofs.Parts.{sheet-room}
 use Rattle.sheets.proofs.SameCurve.{after-one, same-answer, answering, after-whole, whole-answer, same-curve, same-answers}
 use Rattle.sheets.proofs.Strokes.{Stretch, stroke, stroke-in, stroke-out, stroke-length, from-start}
-use Rattle.sheets.proofs.Together.{Table, pieceVerdict, pieceOutcome, afterPiece, answersOf, afterAll, wholeVerdict, wholeOutcome, sheet-taken, whole-taken, together}
+use Rattle.sheets.proofs.Together.{Table, pieceOutcome, afterPiece, answersOf, afterAll, sheet-taken, whole-taken, together}
 use Rattle.sheets.proofs.sheet.sheet
 use Rattle.sheets.proofs.sheet.sheet.Kinds as sheet-kinds
 use Rattle.sheets.proofs.sheet.sheet.Reads as sheet-reads

@@ -6,14 +6,14 @@ use mathlib.Core.Bool.{Bool, true, false, cond, _&&_}
 use mathlib.Core.List.{List, [], _∷_}
 use mathlib.Core.Logic.{_⊎_, inl, inr, ⊎-elim}
 use mathlib.Core.Path.{_≡_, refl, sym, ap, _∙_}
-use borrow.Author.Tests.{ne-eqb, ltb-true, eqb-true, eqb-false, lt-ltb, le-ltb}
+use borrow.Author.Tests.{ne-eqb, eqb-true, eqb-false, lt-ltb, le-ltb}
 use lib.Dec.{eqb, ltb}
 use lib.Ieee.{Float, nan}
 use lib.ListN.{length, getD}
 use Rattle.numbers.specs.Overlay.{overlay}
 use Rattle.numbers.specs.Sizes.{slotCount}
 use Rattle.numbers.specs.Words.{zero}
-use Rattle.numbers.proofs.Every.{all-at, and-split, and-right-false}
+use Rattle.numbers.proofs.Every.{and-right-false}
 use Rattle.numbers.proofs.Overlay.{overlay-none, overlay-same, length-overlay}
 use Rattle.numbers.proofs.Ways.{lt-or-le, never}
 use Rattle.refusal.specs.declared.Refusal.{Refusal}
@@ -35,7 +35,7 @@ use Rattle.sheets.specs.declared.sheet.SheetBuilt.{SheetBuilt}
 use Rattle.sheets.specs.declared.sheet.SheetBuilt.the-variants as sheet-built
 use Rattle.sheets.proofs.Cuts.{Stands, given-left, cut-fits, next-start}
 use Rattle.sheets.proofs.SameCurve.{after-one, same-answer}
-use Rattle.sheets.proofs.Strokes.{Stretch, stroke, strokes, strokes-all, from-start}
+use Rattle.sheets.proofs.Strokes.{Stretch, strokes, strokes-all, from-start}
 use Rattle.sheets.specs.SameCurve.{One, isSheet}
 use Rattle.sheets.proofs.Together.{Table, pieceVerdict, pieceOutcome, piece-accepted, sound-part}
 

@@ -5,6 +5,6 @@ pub mod Together
 pub mod SameCurve
 pub mod InOrder
 pub mod Demand
-pub mod Figures
 pub mod Unique
 pub mod Parts
+pub mod InNumbers

@@ -2,7 +2,7 @@
 -- (`same-curve`), and each answers the whole's total at its end and, where no node is given for its right end, the whole's tail (`same-answers`).
 use Prim.Native.Nat.{ℕ, _+_, _-_, _*_, _/_, _≤_, _<_}
 use native.Mathlib.Omega.{arith}
-use mathlib.Core.Bool.{true, false}
+use mathlib.Core.Bool.{false}
 use mathlib.Core.List.{List, [], _∷_, map}
 use mathlib.Core.Logic.{_⊎_, inl, inr, ⊎-elim}
 use mathlib.Core.Path.{_≡_, refl, sym, ap, _∙_}
@@ -36,7 +36,7 @@ use Rattle.sheets.specs.declared.sheet.SheetBuilt.{SheetBuilt}
 use Rattle.sheets.specs.declared.sheet.SheetBuilt.the-variants as sheet-built
 use Rattle.sheets.proofs.Alike.{points, nodes-same, tags-same, slots-same, total-after, tail-same}
 use Rattle.sheets.proofs.Cuts.{Stands, Covers, one-map, map-one}
-use Rattle.sheets.proofs.Strokes.{Stretch, stroke, strokes, strokes-all}
+use Rattle.sheets.proofs.Strokes.{Stretch, strokes, strokes-all}
 use Rattle.sheets.proofs.Together.{Table, pieceVerdict, pieceOutcome, afterPiece, answersOf, afterAll, wholeVerdict, wholeOutcome, whole-sound, taken, knot, room-after}
 
 -- where a sheet writes

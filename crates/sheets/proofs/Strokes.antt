@@ -1,6 +1,6 @@
 -- Stretches of a buffer, each filled from one rule by place: in whatever order and however often, what stands at a place is the rule's number if a stretch has
 -- it, and else what stood there.
-use Prim.Native.Nat.{ℕ, zero, suc, _+_, _-_, _≤_, _<_}
+use Prim.Native.Nat.{ℕ, _+_, _-_, _≤_, _<_}
 use native.Mathlib.Omega.{arith}
 use native.Mathlib.Nat.{zero-add}
 use mathlib.Core.List.{List, [], _∷_}

@@ -17,7 +17,7 @@ use Rattle.refusal.specs.declared.Verdict.{Verdict}
 use Rattle.refusal.specs.declared.Verdict.the-variants as verdict
 use Rattle.table.specs.Buffers.{Buffers, Outcome, judged}
 use Rattle.table.specs.Check.{allFinite, rising}
-use Rattle.table.specs.Sound.{Sound, Room}
+use Rattle.table.specs.Sound.{Sound}
 use Rattle.table.specs.Table.{at, nodeAt}
 use Rattle.table.specs.declared.method.ConvexMonotone.{ConvexMonotone}
 use Rattle.table.specs.declared.ends.Frame.{Frame}

@@ -9,7 +9,7 @@ use lib.Dec.{eqb}
 use lib.Ieee.{Float}
 use lib.ListN.{length, getD}
 use Rattle.numbers.specs.Sizes.{slotCount}
-use Rattle.table.specs.Buffers.{Buffers, Outcome, outcome}
+use Rattle.table.specs.Buffers.{Buffers, Outcome}
 use Rattle.table.specs.Sound.{Room}
 use Rattle.table.specs.Table.{nodeAt, totalAt}
 use Rattle.table.specs.declared.method.ConvexMonotone.{ConvexMonotone}

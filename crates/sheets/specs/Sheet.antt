@@ -57,7 +57,7 @@ sheetOutcome x y method l r start place b =
     let frame = sheetFrame method l r start in
     judged (sheetVerdict x y method l r place b) sheet-built.Refused b (record { answer = sheet-built.Sheet (endOf r (tailOf x y frame)); buffers = after place x y frame b })
 
--- a refusal's number, or 0, with the total and the tail
+-- in the documents' numbers: the refusal's, or 0, with the total and the tail
 abbrev pub sheetInNumbers : SheetBuilt → SheetInNumbers
 sheetInNumbers (sheet-built.Sheet s) = record { refusal = 0; total = s .total; tail = s .tail }
 sheetInNumbers (sheet-built.Refused r) = record { refusal = number r; total = zero; tail = noTail }

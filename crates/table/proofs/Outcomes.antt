@@ -1,7 +1,7 @@
 -- What a call answers and leaves, by its verdict, and what an answer says of the verdict.
 use Prim.Native.Nat.{ℕ}
-use mathlib.Core.List.{List}
-use mathlib.Core.Path.{_≡_, refl, sym, ap, _∙_}
+use mathlib.Core.Path.{_≡_, sym, ap, _∙_}
+use Rattle.refusal.specs.Refusal.{number, verdictNumber}
 use Rattle.refusal.specs.declared.Refusal.{Refusal}
 use Rattle.refusal.specs.declared.Verdict.{Verdict}
 use Rattle.refusal.specs.declared.Verdict.the-variants as verdict
@@ -36,3 +36,9 @@ module _ {A : Type 0} (v : Verdict) (refuse : Refusal → A) (old : Buffers) (ne
 
   pub left-old : (r : Refusal) → o ≡ judged v refuse old new → v ≡ verdict.Refused r → o ≡ record { answer = refuse r; buffers = old }
   left-old r e f = e ∙ ap (λ (w : Verdict). judged w refuse old new) f
+
+-- an answer that tells its refusal's number, or 0, tells that of the verdict
+module _ {A : Type 0} (numberIn : A → ℕ) (refuse : Refusal → A) (refuses : (r : Refusal) → numberIn (refuse r) ≡ number r) (old : Buffers) (new : Outcome A) (accepts : numberIn (new .answer) ≡ 0) where
+  pub number-judged : (v : Verdict) → numberIn (judged v refuse old new .answer) ≡ verdictNumber v
+  number-judged verdict.Accepted = accepts
+  number-judged (verdict.Refused r) = refuses r

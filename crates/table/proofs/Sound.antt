@@ -1,18 +1,18 @@
 -- The tests of a table pass exactly when it is sound, and those of sizes exactly when there is room.
-use Prim.Native.Nat.{ℕ, _-_, _*_, _≤_}
-use mathlib.Core.Bool.{true, false, not, _||_}
+use Prim.Native.Nat.{ℕ, _-_, _*_}
+use mathlib.Core.Bool.{_||_}
 use mathlib.Core.List.{List}
-use mathlib.Core.Path.{_≡_, ap}
+use mathlib.Core.Path.{_≡_}
 use borrow.Author.Tests.{ltb-false, le-ltb, eqb-true, eq-eqb, not-false}
-use lib.Dec.{ltb, eqb}
+use lib.Dec.{ltb}
 use lib.Ieee.{Float}
 use lib.ListN.{length}
 use Rattle.numbers.specs.Sizes.{slotCount}
 use Rattle.numbers.proofs.Ways.{or-none}
 use Rattle.refusal.specs.Refusal.{first}
 use Rattle.refusal.specs.declared.Verdict.the-variants as verdict
-use Rattle.refusal.proofs.First.{passed, accepted}
-use Rattle.table.specs.Check.{tableTests, roomTests, noRoom}
+use Rattle.refusal.proofs.First.{passed}
+use Rattle.table.specs.Check.{tableTests, roomTests}
 use Rattle.table.specs.Sound.{Sound, Room}
 use Rattle.table.specs.declared.method.ConvexMonotone.{ConvexMonotone}
 

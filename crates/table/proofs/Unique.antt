@@ -1,5 +1,5 @@
 -- Any two outcomes that a contract allows are the same, of each contract as the checker reads it.
-use mathlib.Core.Path.{_≡_, _∙_, sym}
+use mathlib.Core.Path.{_∙_, sym}
 use Rattle.numbers.specs.OneOutcome.{OneAnswer}
 use Rattle.table.proofs.check.knots_of.Reads as knots-of
 use Rattle.table.proofs.check.table_verdict.Reads as table-verdict

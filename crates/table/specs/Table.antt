@@ -7,7 +7,6 @@ use lib.Dec.{eqb}
 use lib.Ieee.{Float, nan, lt}
 use lib.ListN.{length, getD}
 use Rattle.numbers.specs.Words.{_⊕_, _⊖_, _⊗_, _⊘_, zero, half, threeHalves}
-use Rattle.table.specs.declared.method.ConvexMonotone.{ConvexMonotone}
 use Rattle.table.specs.declared.ends.Frame.{Frame}
 use Rattle.table.specs.declared.ends.End.{End}
 use Rattle.table.specs.declared.ends.End.the-variants as end

@@ -7,8 +7,6 @@ use Rattle.root.proofs.Powers.{pow-next, lt-pow}
 use Rattle.root.proofs.Isqrt.{found-up, found-down}
 use Rattle.root.proofs.nearest_root.Statement.{statement}
 use Rattle.root.proofs.nearest_root.Tie as tie
-use Rattle.root.proofs.nearest_root.Reads as reads
-use Rattle.root.proofs.nearest_root.Lts as lts
 
 abbrev Inv-loop : tie.InvT-loop
 Inv-loop s left₀ rest₀ root₀ i₀ left rest root i =

@@ -1,8 +1,7 @@
 -- `root::plain` meets its contract: the exponent's field says how many of the units' digits stand above the 53 that are kept.
-use Prim.Native.Nat.{_<_, _≤_, _^_, _*_}
+use Prim.Native.Nat.{_^_}
 use native.Mathlib.Omega.{arith}
 use native.Mathlib.Nat.{mul-one}
-use mathlib.Core.Path.{_≡_}
 use borrow.Author.Needs.{needs}
 use borrow.Author.Tests.{lt-ltb, le-ltb}
 use Rattle.root.specs.Steps.{unitsOfBits}

@@ -1,9 +1,9 @@
 -- `root::special` meets its contract: each return by the tests that led there.
-use mathlib.Core.Bool.{Bool, true, false, not}
+use mathlib.Core.Bool.{Bool, true, not}
 use mathlib.Core.Path.{_≡_, sym, subst, ap, _∙_}
 use borrow.Author.Needs.{needs}
 use lib.Dec.{T}
-use lib.Ieee.{Float, binary64, toBits, ofBits, nanBits}
+use lib.Ieee.{binary64, ofBits, nanBits}
 use denote.Floats.{passes}
 use Rattle.numbers.specs.Words.{finite}
 use Rattle.root.specs.Nearest.{Positive}

@@ -1,5 +1,4 @@
 -- `nodes::outer` meets its contract.
-use borrow.Author.Needs.{needs}
 use Rattle.assembly.proofs.nodes.outer.Statement.{statement}
 use Rattle.assembly.proofs.nodes.outer.Tie as tie
 

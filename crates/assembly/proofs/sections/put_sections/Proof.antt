@@ -4,12 +4,12 @@ use Prim.Native.Nat.{ℕ, _+_, _-_, _*_, _≤_, _<_}
 use native.Mathlib.Omega.{arith}
 use mathlib.Core.Path.{_≡_, refl, sym, ap, _∙_}
 use borrow.Author.Needs.{needs}
-use lib.ListN.{length, length-set}
+use lib.ListN.{length}
 use Rattle.numbers.specs.Sizes.{slotCount}
 use Rattle.numbers.specs.Overlay.{overlay}
-use Rattle.numbers.proofs.Overlay.{overlay-none, length-overlay}
+use Rattle.numbers.proofs.Overlay.{overlay-none}
 use Rattle.table.specs.Table.{at, nodeAt, totalAt}
-use Rattle.assembly.specs.Sections.{sectionAt, tagAt, slotAt}
+use Rattle.assembly.specs.Sections.{tagAt, slotAt}
 use Rattle.assembly.proofs.Rows.{tag-more, slots-more, total-more}
 use Rattle.assembly.proofs.sections.put_sections.Statement.{statement}
 use Rattle.assembly.proofs.sections.put_sections.Tie as tie

@@ -1,15 +1,11 @@
 -- `sections::tail_of` meets its contract: the last record answers what its section does.
 use Prim.Native.Nat.{_-_, _*_}
-use native.Mathlib.Omega.{arith}
 use native.Mathlib.Nat.{add-sub-cancel-left}
-use mathlib.Core.Path.{_≡_, ap, _∙_}
 use borrow.Author.Needs.{needs}
 use lib.ListN.{length}
 use Rattle.numbers.specs.Sizes.{slotCount}
-use Rattle.section.specs.Section.{value}
-use Rattle.record.specs.Number.{answerIn, orZero}
 use Rattle.table.specs.Table.{at}
-use Rattle.assembly.specs.Sections.{sectionAt, tailOf}
+use Rattle.assembly.specs.Sections.{tailOf}
 use Rattle.assembly.proofs.Rows.{total-more}
 use Rattle.assembly.proofs.sections.tail_of.Statement.{statement}
 use Rattle.assembly.proofs.sections.tail_of.Tie as tie

@@ -1,6 +1,5 @@
 -- `build::whole_frame` meets its contract.
 use borrow.Author.Tests.{eq-eqb, ne-eqb}
-use borrow.Author.Needs.{needs}
 use Rattle.curve.proofs.build.whole_frame.Statement.{statement}
 use Rattle.curve.proofs.build.whole_frame.Tie as tie
 

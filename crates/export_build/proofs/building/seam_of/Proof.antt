@@ -1,5 +1,4 @@
 -- `building::seam_of` meets its contract.
-use borrow.Author.Needs.{needs}
 use Rattle.export_build.proofs.building.seam_of.Statement.{statement}
 use Rattle.export_build.proofs.building.seam_of.Tie as tie
 

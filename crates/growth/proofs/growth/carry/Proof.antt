@@ -1,6 +1,5 @@
 -- `growth::carry` meets its contract: the window first, then the previous curve.
 use borrow.Author.Needs.{needs}
-use lib.ListN.{length}
 use Rattle.growth.proofs.Seams.{in-window, past-none, past-curve}
 use Rattle.numbers.proofs.Ways.{returned}
 use Rattle.growth.proofs.growth.carry.Statement.{statement}

@@ -1,6 +1,5 @@
 -- `answer::answer` meets its contract.
-use mathlib.Core.Bool.{true, false}
-use mathlib.Core.Path.{_≡_, ap, sym, _∙_}
+use mathlib.Core.Path.{_∙_}
 use borrow.Author.Needs.{needs}
 use borrow.Author.Tests.{lt-ltb, le-ltb, not-true, not-false}
 use lib.ListN.{length}
@@ -14,10 +13,14 @@ returns c = let a = c .before .before .before .args in too-short (a .order .now)
 
 returns-2 : tie.Need-returns-2
 returns-2 c =
-    let a = c .before .before .before .before .before .before .before .before .before .args in
-    let h = le-ltb (length (a .out .now)) 2506 (c .before .before .before .before .before .before .if1 .left) in
-    let f = returned (c .before .before .before .before .before .well-formed .ensures) (not-true _ (c .before .before .before .before .if2 .taken)) in
-    malformed (a .order .now) (a .out .now) _ h f (c .before .before .put-build .ensures)
+    let p = c .before .before in
+    let w = p .before .before in
+    let n = w .before in
+    let t = n .before in
+    let a = t .before .before .before .before .before .args in
+    let h = le-ltb (length (a .out .now)) 2506 (t .before .before .if1 .left) in
+    let f = returned (t .before .well-formed .ensures) (not-true _ (t .if2 .taken)) in
+    malformed (a .order .now) (a .out .now) _ _ h f (w .wide .ensures ∙ n .number .ensures) (p .put-build .ensures)
 
 returns-3 : tie.Need-returns-3
 returns-3 c =
@@ -34,7 +37,7 @@ answer-spec =
     tie.close
     (tie.spec
     returns
-    (λ c κs. search needs) (λ c κs. search needs) (λ c. search needs)
+    (λ c κs. search needs) (λ c κs. search needs) (λ c κs. search needs) (λ c κs. search needs) (λ c. search needs)
     returns-2
     (λ c. search needs) (λ c. search needs) (λ c. search needs) (λ c. search needs) (λ c. search needs)
     answer-form-requires

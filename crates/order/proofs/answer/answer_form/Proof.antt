@@ -1,15 +1,12 @@
 -- `answer::answer_form` meets its contract: the table is read, and then answered.
-use Prim.Native.Nat.{ℕ, _+_, _*_, _≤_}
 use native.Mathlib.Omega.{arith}
-use mathlib.Core.List.{List}
-use mathlib.Core.Path.{_≡_, ap, sym, _∙_}
+use mathlib.Core.Path.{ap, sym, _∙_}
 use borrow.Author.Needs.{needs}
-use lib.Ieee.{Float}
 use lib.ListN.{length}
 use lib.Seq.{length-take-le}
 use Rattle.numbers.proofs.Overlay.{length-overlay}
 use Rattle.table.specs.Buffers.{buffers}
-use Rattle.order.specs.Form.{pointsOf, numberAt}
+use Rattle.order.specs.Form.{pointsOf}
 use Rattle.order.proofs.Texts.{counts, read-knots, read-averages, form-text}
 use Rattle.order.proofs.answer.answer_form.Statement.{statement}
 use Rattle.order.proofs.answer.answer_form.Tie as tie

@@ -1,12 +1,9 @@
 -- `answer::answer_table` meets its contract: the build, and then its lines.
-use mathlib.Core.Bool.{Bool}
-use mathlib.Core.List.{List}
-use mathlib.Core.Path.{_≡_, ap, _∙_}
+use mathlib.Core.Path.{ap, _∙_}
 use borrow.Author.Needs.{needs}
-use lib.Ieee.{Float}
 use Prim.Native.Nat.{ℕ}
 use Rattle.table.specs.Buffers.{buffers}
-use Rattle.order.specs.Form.{bitOf, method, hold}
+use Rattle.order.specs.Form.{bitOf}
 use Rattle.order.proofs.Texts.{told-text}
 use Rattle.order.proofs.answer.answer_table.Statement.{statement}
 use Rattle.order.proofs.answer.answer_table.Tie as tie

@@ -1,5 +1,4 @@
 -- `answer::method_of` meets its contract.
-use mathlib.Core.Path.{_≡_}
 use borrow.Author.Needs.{needs}
 use Rattle.order.proofs.answer.method_of.Statement.{statement}
 use Rattle.order.proofs.answer.method_of.Tie as tie

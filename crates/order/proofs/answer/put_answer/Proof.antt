@@ -1,11 +1,10 @@
 -- `answer::put_answer` meets its contract: the build's line, and a line to each query where there is a curve.
-use Prim.Native.Nat.{_+_, _*_, _≤_}
+use Prim.Native.Nat.{_+_, _*_}
 use native.Mathlib.Omega.{arith}
 use mathlib.Core.List.{[]}
-use mathlib.Core.Path.{_≡_, refl, ap, _∙_}
+use mathlib.Core.Path.{refl, ap, _∙_}
 use borrow.Author.Needs.{needs}
-use lib.ListN.{length}
-use Rattle.order.specs.Form.{points, queries, pointsOf, queriesOf, bitOf}
+use Rattle.order.specs.Form.{pointsOf, queriesOf, bitOf}
 use Rattle.table.specs.Buffers.{outcome}
 use Rattle.curve.specs.Curve.{withExtrapolation}
 use Rattle.order.proofs.Texts.{counts, refused-text, curve-text}

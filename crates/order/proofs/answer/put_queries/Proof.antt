@@ -1,9 +1,8 @@
 -- `answer::put_queries` meets its contract. The invariant: the first k lines are written.
-use Prim.Native.Nat.{_+_, _-_, _*_, _≤_}
+use Prim.Native.Nat.{_-_, _*_, _≤_}
 use native.Mathlib.Omega.{arith}
 use mathlib.Core.Path.{_≡_, refl, ap, _∙_}
 use borrow.Author.Needs.{needs}
-use lib.Ieee.{Float}
 use lib.ListN.{length}
 use Rattle.numbers.specs.Overlay.{overlay}
 use Rattle.numbers.proofs.Overlay.{overlay-none, length-overlay}

@@ -1,5 +1,5 @@
 -- `asking::ask` meets its contract.
-use mathlib.Core.Path.{sym, ap, _∙_}
+use mathlib.Core.Path.{ap, _∙_}
 use borrow.Author.Needs.{needs}
 use lib.Ieee.{Float}
 use Rattle.section.specs.Section.{value, primitive}

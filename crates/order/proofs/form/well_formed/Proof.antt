@@ -1,14 +1,6 @@
 -- `form::well_formed` meets its contract: each return by the tests that led there.
-use Prim.Native.Nat.{ℕ, _+_, _*_, _/_, _%_}
-use native.Mathlib.Omega.{arith}
-use mathlib.Core.Bool.{Bool, true, false, _&&_}
-use mathlib.Core.List.{List}
-use mathlib.Core.Path.{_≡_, refl, sym, ap, _∙_}
 use borrow.Author.Needs.{needs}
 use borrow.Author.Tests.{eq-eqb, ne-eqb, le-leb, lt-leb}
-use lib.Dec.{eqb}
-use lib.ListN.{length}
-use Rattle.order.specs.Form.{headerOf, pointsOf, queriesOf}
 use Rattle.order.proofs.form.well_formed.Statement.{statement}
 use Rattle.order.proofs.form.well_formed.Tie as tie
 

@@ -1,5 +1,4 @@
 -- `text::put_build` meets its contract: ten bytes, one after the other.
-use mathlib.Core.Path.{refl}
 use borrow.Author.Needs.{needs}
 use lib.ListN.{length-set}
 use Rattle.numbers.specs.Overlay.{overlay}

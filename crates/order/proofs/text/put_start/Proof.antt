@@ -1,6 +1,5 @@
 -- `text::put_start` meets its contract: five bytes, one after the other.
 use native.Mathlib.Nat.{add-zero}
-use mathlib.Core.Path.{refl}
 use borrow.Author.Needs.{needs}
 use lib.ListN.{length-set}
 use Rattle.numbers.specs.Overlay.{overlay}

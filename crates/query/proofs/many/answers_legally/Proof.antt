@@ -2,7 +2,6 @@
 use Prim.Native.Nat.{ℕ}
 use native.Mathlib.Omega.{arith}
 use mathlib.Core.Path.{sym, ap, _∙_}
-use borrow.Author.Needs.{needs}
 use lib.ListN.{length}
 use Rattle.record.specs.Reading.{isSection, recordAt}
 use Rattle.query.proofs.Answers.{Reaches, reached}

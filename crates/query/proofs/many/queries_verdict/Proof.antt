@@ -1,16 +1,12 @@
 -- `many::queries_verdict` meets its contract. The invariant: no query passed is refused.
-use Prim.Native.Nat.{_+_, _-_, _≤_, _<_}
+use Prim.Native.Nat.{_-_, _≤_}
 use native.Mathlib.Omega.{arith}
-use mathlib.Core.Bool.{true}
-use mathlib.Core.Path.{_≡_, sym, ap, _∙_}
+use mathlib.Core.Path.{_≡_, sym, _∙_}
 use borrow.Author.Needs.{needs}
 use lib.ListN.{length}
-use Rattle.numbers.specs.Every.{allBelow}
-use Rattle.record.specs.Reading.{isSection, recordAt}
-use Rattle.refusal.specs.Refusal.{first}
 use Rattle.refusal.specs.declared.Verdict.the-variants.{Accepted}
 use Rattle.table.specs.Table.{at}
-use Rattle.query.specs.Query.{curveTests, coveredAt}
+use Rattle.query.specs.Query.{coveredAt}
 use Rattle.query.specs.Many.{verdictOf, firstRefused}
 use Rattle.query.proofs.Covering.{none-refused, one-more, one-refused}
 use Rattle.query.proofs.many.queries_verdict.Statement.{statement}

@@ -1,5 +1,4 @@
 -- `number::tail_number` meets its contract: a constant section answers what its numbers do.
-use mathlib.Core.Path.{_∙_}
 use borrow.Author.Needs.{needs}
 use Rattle.section.specs.Section.{value, primitive}
 use Rattle.query.proofs.number.tail_number.Statement.{statement}

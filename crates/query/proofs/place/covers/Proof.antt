@@ -1,7 +1,7 @@
 -- `place::covers` meets its contract.
 use mathlib.Core.Logic.{⊎-elim}
 use mathlib.Core.Bool.{true, not, _||_}
-use mathlib.Core.Path.{_≡_, refl}
+use mathlib.Core.Path.{_≡_}
 use borrow.Author.Needs.{needs}
 use borrow.Author.Tests.{eq-eqb, ne-eqb, le-leb, lt-leb}
 use lib.Dec.{eqb}

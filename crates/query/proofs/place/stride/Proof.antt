@@ -1,17 +1,14 @@
 -- `place::stride` meets its contract. The invariant: it is not past the place, and has come as far as it looked or near enough.
 use Prim.Native.Nat.{_+_, _-_, _*_, _≤_, _<_}
 use native.Mathlib.Omega.{arith}
-use mathlib.Core.Bool.{true, not}
+use mathlib.Core.Bool.{not}
 use mathlib.Core.Logic.{⊎-elim, inl}
 use mathlib.Core.Path.{_≡_, refl}
 use mir.Val.{boolByte}
 use borrow.Author.Needs.{needs}
 use lib.Ieee.{lt}
-use lib.ListN.{length}
-use Rattle.table.specs.Check.{rising}
 use Rattle.table.specs.Table.{at}
 use Rattle.query.specs.Query.{placeOf}
-use Rattle.query.proofs.Walk.{place-le}
 use Rattle.query.proofs.Sides.{Strode, looked}
 use Rattle.query.proofs.place.stride.Statement.{statement}
 use Rattle.query.proofs.place.stride.Tie as tie

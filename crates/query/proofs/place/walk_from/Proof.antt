@@ -2,7 +2,6 @@
 use Prim.Native.Nat.{_-_, _≤_}
 use native.Mathlib.Omega.{arith}
 use borrow.Author.Needs.{needs}
-use lib.ListN.{length}
 use Rattle.query.specs.Query.{placeOf}
 use Rattle.query.proofs.Walk.{place-le}
 use Rattle.query.proofs.Sides.{below, not-below}

@@ -1,8 +1,10 @@
 -- `legality::legal_in` meets its contract: by the number of its slots, and the kinds that its tag names.
+use mathlib.Core.Bool.{Bool, _&&_}
 use mathlib.Core.Path.{sym, ap, _∙_}
 use borrow.Author.Needs.{needs}
-use Rattle.record.specs.Reading.{isSection}
-use Rattle.record.proofs.Legal.{short-unread, legal-exactly}
+use borrow.Author.Tests.{lt-leb, le-leb}
+use Rattle.numbers.specs.Sizes.{fieldCount}
+use Rattle.record.specs.Legal.{legal}
 use Rattle.record.proofs.legality.legal_in.Statement.{statement}
 use Rattle.record.proofs.legality.legal_in.Tie as tie
 
@@ -10,8 +12,8 @@ pub legal-in-spec : {M : Type 1} → statement M
 legal-in-spec =
     tie.close
     (tie.spec
-    (λ c. ap isSection (sym (short-unread _ _ (c .if1 .taken))))
+    (λ c. sym (ap (λ (enough : Bool). enough && legal (c .before .before .args .tag)) (lt-leb fieldCount _ (c .if1 .taken))))
     (λ c κs. search needs) (λ c κs. search needs) (λ c κs. search needs)
     (λ c.
-    c .pairs .ensures
-    ∙ rw (c .before .before .quadratic-named .ensures, c .before .other-named .ensures) (sym (legal-exactly _ _ (c .before .before .before .if1 .left)))))
+    rw (le-leb fieldCount _ (c .before .before .before .if1 .left))
+    (c .pairs .ensures ∙ rw (c .before .before .quadratic-named .ensures, c .before .other-named .ensures))))

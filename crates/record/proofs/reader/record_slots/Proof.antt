@@ -1,5 +1,5 @@
 -- `reader::record_slots` meets its contract: what was accepted lies within the slots.
-use mathlib.Core.Path.{_≡_, sym, ap, _∙_}
+use mathlib.Core.Path.{sym, ap, _∙_}
 use native.Mathlib.Omega.{arith}
 use borrow.Author.Needs.{needs}
 use Prim.Native.Nat.{ℕ, _*_}
@@ -7,7 +7,7 @@ use native.Mathlib.Nat.{add-sub-cancel-left}
 use lib.ListN.{length, take, drop}
 use Rattle.numbers.specs.Sizes.{slotCount}
 use Rattle.refusal.specs.declared.Verdict.{Verdict}
-use Rattle.record.specs.Reader.{recordVerdict, recordPart}
+use Rattle.record.specs.Reader.{recordPart}
 use Rattle.record.proofs.InRange.{InRange, in-range}
 use Rattle.record.proofs.reader.record_slots.Statement.{statement}
 use Rattle.record.proofs.reader.record_slots.Tie as tie

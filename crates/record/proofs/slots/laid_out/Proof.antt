@@ -1,10 +1,9 @@
 -- `slots::laid_out` meets its contract: an array is the list of its entries.
 use mathlib.Core.List.{List, _∷_, _++_}
-use mathlib.Core.Path.{_≡_, sym, ap, _∙_}
+use mathlib.Core.Path.{sym, ap, _∙_}
 use native.Mathlib.Omega.{arith}
 use borrow.Author.Needs.{needs}
 use lib.Ieee.{Float, nan}
-use lib.ListN.{length}
 use Rattle.record.proofs.Cells.{cells, all-cells}
 use Rattle.record.proofs.slots.laid_out.Statement.{statement}
 use Rattle.record.proofs.slots.laid_out.Tie as tie

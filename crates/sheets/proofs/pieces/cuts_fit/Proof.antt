@@ -1,12 +1,10 @@
 -- `pieces::cuts_fit` meets its contract. The invariant: every cut passed fits, and the next one is to lie above the last of them.
-use Prim.Native.Nat.{_+_, _-_, _≤_, _<_}
+use Prim.Native.Nat.{_-_, _≤_, _<_}
 use native.Mathlib.Omega.{arith}
-use mathlib.Core.Bool.{true, false, _&&_}
-use mathlib.Core.Path.{_≡_, refl, sym, ap, _∙_}
+use mathlib.Core.Bool.{true}
+use mathlib.Core.Path.{_≡_, refl, sym}
 use borrow.Author.Needs.{needs}
-use borrow.Author.Tests.{lt-ltb, le-ltb}
-use lib.Dec.{ltb}
-use lib.ListN.{length, getD}
+use lib.ListN.{length}
 use Rattle.numbers.specs.Every.{allBelow}
 use Rattle.numbers.proofs.Every.{all-none, all-more, all-fails}
 use Rattle.sheets.specs.Cuts.{startOf, cutFits, cutsFit}

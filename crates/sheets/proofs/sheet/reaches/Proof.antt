@@ -1,6 +1,5 @@
 -- `sheet::reaches` meets its contract.
 use borrow.Author.Tests.{le-leb, lt-leb}
-use borrow.Author.Needs.{needs}
 use Rattle.sheets.proofs.sheet.reaches.Statement.{statement}
 use Rattle.sheets.proofs.sheet.reaches.Tie as tie
 
