@@ -14,9 +14,9 @@ returns c = let a = c .before .before .before .args in too-short (a .order .now)
 returns-2 : tie.Need-returns-2
 returns-2 c =
     let p = c .before .before in
-    let w = p .before .before in
+    let w = p .before in
     let n = w .before in
-    let t = n .before in
+    let t = n .before .before in
     let a = t .before .before .before .before .before .args in
     let h = le-ltb (length (a .out .now)) 2506 (t .before .before .if1 .left) in
     let f = returned (t .before .well-formed .ensures) (not-true _ (t .if2 .taken)) in
