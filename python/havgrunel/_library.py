@@ -1,0 +1,127 @@
+"""Finds the shared library of proved functions, or has it made, and declares its functions.
+
+It is looked for in this order: the file that the variable HAVGRUNEL_LIBRARY names, libhavgrunel.so beside this module (as a wheel has it), and in the
+repository that this package lies in the one that tools/archive makes. Only the last may need the Rattle kit.
+"""
+
+import ctypes
+import os
+import platform
+import subprocess
+import sys
+import threading
+from ctypes import POINTER, c_bool, c_double, c_size_t, c_uint8, c_uint16
+from typing import Any, Dict, List, Optional, Tuple
+
+SLOTS = 24
+MOST_POINTS = 4096
+VARIABLE = "HAVGRUNEL_LIBRARY"
+FILE = "libhavgrunel.so"
+
+HERE = os.path.dirname(os.path.realpath(__file__))
+REPOSITORY = os.path.dirname(os.path.dirname(HERE))
+
+_NUMBERS = [POINTER(c_double), c_size_t]
+_TAGS = [POINTER(c_uint16), c_size_t]
+_COUNTS = [POINTER(c_size_t), c_size_t]
+_METHOD = [c_double, c_double, c_bool]
+_TABLE = _NUMBERS + _NUMBERS + _METHOD
+_WRITTEN = _NUMBERS + _TAGS + _NUMBERS + _COUNTS + _NUMBERS
+_ASKED = _NUMBERS + _TAGS + _NUMBERS + [c_double, c_double, c_double, c_bool]
+
+# The functions of c/havgrunel.h that this package calls: what each answers, and what it takes.
+DECLARED: Dict[str, Tuple[Any, List[Any]]] = {
+    "havgrunel_sqrt": (c_double, [c_double]),
+    "havgrunel_default_quadraticity": (c_double, []),
+    "havgrunel_default_monotonicity": (c_double, []),
+    "havgrunel_default_positivity": (c_bool, []),
+    "havgrunel_build": (c_uint8, _TABLE + [c_bool, c_bool, c_size_t, c_double] + _WRITTEN),
+    "havgrunel_grow": (c_uint8, _TABLE + [c_size_t, c_size_t, c_bool, c_size_t, c_bool] + _TAGS + _NUMBERS + _WRITTEN),
+    "havgrunel_build_in_sheets": (c_uint8, _TABLE + _COUNTS + _WRITTEN),
+    "havgrunel_value": (c_uint8, _ASKED + [c_double] + _NUMBERS),
+    "havgrunel_primitive": (c_uint8, _ASKED + [c_double] + _NUMBERS),
+    "havgrunel_values": (c_uint8, _ASKED + _NUMBERS + _NUMBERS),
+    "havgrunel_primitives": (c_uint8, _ASKED + _NUMBERS + _NUMBERS),
+    "havgrunel_section": (c_uint8, [c_uint16] + _NUMBERS + [c_double] + _NUMBERS),
+}
+
+
+class LibraryMissing(RuntimeError):
+    """There is no library to call, and none could be made. The message says in a few lines what is needed."""
+
+
+_lock = threading.Lock()
+_loaded: Optional[ctypes.CDLL] = None
+
+
+def load(progress: Optional[bool] = None) -> ctypes.CDLL:
+    """The library, with its functions declared. The first call in a process finds it, or has it made; later ones answer the same.
+
+    Where it has to be made, what is being proved is shown on standard error, crate by crate: always with `progress`, never where that is False, and
+    with None where standard error is a terminal.
+    """
+    global _loaded
+    if _loaded is None:
+        with _lock:
+            if _loaded is None:
+                _loaded = _opened(_found(progress))
+    return _loaded
+
+
+def _found(progress: Optional[bool]) -> str:
+    named = os.environ.get(VARIABLE)
+    if named:
+        return named
+    beside = os.path.join(HERE, FILE)
+    if os.path.exists(beside):
+        return beside
+    return _made(progress)
+
+
+def _made(progress: Optional[bool]) -> str:
+    """The path of the repository's own library, made by tools/archive where it is not there or not of these sources."""
+    archive = os.path.join(REPOSITORY, "tools", "archive")
+    if not os.path.exists(archive):
+        raise LibraryMissing(
+            f"havgrunel: the library of proved functions, {FILE}, is not beside this package.\n"
+            f"Install the wheel that tools/wheel writes, or let the variable {VARIABLE} name the file."
+        )
+    if sys.platform != "linux":
+        raise LibraryMissing(
+            f"havgrunel: the library of proved functions is made for Linux on x86-64 and Arm, and this system is {platform.system() or sys.platform}.\n"
+            "README.md, under 'What it needs', says what runs where."
+        )
+    words = [archive, "--shared"] + ([] if progress is None else ["--progress" if progress else "--quiet"])
+    try:
+        made = subprocess.run(words, stdin=subprocess.DEVNULL, stdout=subprocess.PIPE, check=False)
+    except OSError as fault:
+        raise LibraryMissing(f"havgrunel: tools/archive, which makes the library, cannot be run: {fault.strerror}.") from None
+    if made.returncode != 0:
+        raise LibraryMissing(_why_not_made(made.returncode))
+    return os.fsdecode(made.stdout).rstrip("\n").rpartition("\n")[2]
+
+
+def _why_not_made(status: int) -> str:
+    """What to do where tools/archive has told on standard error why it made no library."""
+    built = os.path.join(REPOSITORY, "target", "native", FILE)
+    if os.path.exists(built):
+        return f"havgrunel: there is a library from an earlier run; {VARIABLE}={built} uses it as it is."
+    return (
+        f"havgrunel: the library of proved functions could not be made (tools/archive ended with status {status}).\n"
+        f"It takes the Rattle kit, or a library that was made elsewhere and that the variable {VARIABLE} names; README.md says more."
+    )
+
+
+def _opened(path: str) -> ctypes.CDLL:
+    try:
+        library = ctypes.CDLL(os.path.abspath(path))
+    except OSError as fault:
+        raise LibraryMissing(f"havgrunel: the library {path} cannot be loaded: {fault}") from None
+    for name, (answers, takes) in DECLARED.items():
+        try:
+            function = getattr(library, name)
+        except AttributeError:
+            raise LibraryMissing(f"havgrunel: {path} is not the library of this package: it has no function {name}.") from None
+        function.restype = answers
+        function.argtypes = takes
+    return library

@@ -1,0 +1,392 @@
+"""Curves: built from traded averages, grown, or built in sheets; and what is asked of them.
+
+Every price and every total comes from a proved function of the library. Python lends the buffers and hands the answers on.
+"""
+
+import ctypes
+import math
+import sys
+from array import array
+from dataclasses import dataclass, field
+from itertools import islice
+from typing import Any, Callable, Iterable, NamedTuple, Optional, Tuple
+
+from . import _numbers
+from ._library import MOST_POINTS, SLOTS, load
+from ._numbers import Lent, Many
+from .refusals import Refused
+from .section import Section
+
+
+def sqrt(a: float) -> float:
+    """The square root, correctly rounded. Below zero there is none, and a NaN comes back."""
+    return load().havgrunel_sqrt(_numbers.one(a, "a"))
+
+
+@dataclass(frozen=True)
+class Method:
+    """The settings of the method; what is left out is what the library itself takes.
+
+    quadraticity -- from 0 to 1: how much of each section is a parabola
+    monotonicity -- from 0 to 1: how monotone the rest is
+    positivity   -- whether prices are held above zero; docs/SHAPES.md says where that fails
+    """
+
+    quadraticity: float = field(default_factory=lambda: load().havgrunel_default_quadraticity())
+    monotonicity: float = field(default_factory=lambda: load().havgrunel_default_monotonicity())
+    positivity: bool = field(default_factory=lambda: load().havgrunel_default_positivity())
+
+    def __post_init__(self) -> None:
+        object.__setattr__(self, "quadraticity", _numbers.one(self.quadraticity, "the quadraticity"))
+        object.__setattr__(self, "monotonicity", _numbers.one(self.monotonicity, "the monotonicity"))
+        object.__setattr__(self, "positivity", bool(self.positivity))
+
+
+class Tail(NamedTuple):
+    """What answers from the last knot on: a constant price, the total where it starts, and where that is."""
+
+    value: float
+    total: float
+    from_: float
+
+
+class _Room:
+    """Buffers for the curve of so many points; empty ones for a number that is refused whatever room there is."""
+
+    def __init__(self, points: int) -> None:
+        points = points if 2 <= points <= MOST_POINTS else 0
+        sections = max(points - 1, 0)
+        self.nodes = _numbers.zeros(points)
+        self.tags = array("H", bytes(2 * sections))
+        self.slots = _numbers.zeros(SLOTS * sections)
+        self.sections = ctypes.c_size_t()
+        self.tail = (ctypes.c_double * 3)()
+
+    def lent(self) -> Tuple[Any, ...]:
+        return (*_lent(self.nodes), *_lent(self.tags), *_lent(self.slots), ctypes.byref(self.sections), 1, self.tail, 3)
+
+
+def _lent(own: "array[Any]") -> Tuple[Any, int]:
+    """A pointer to an array's entries, and their count."""
+    if not own:
+        return None, 0
+    entry = ctypes.c_double if own.typecode == "d" else ctypes.c_uint16
+    return ctypes.pointer(entry.from_buffer(own)), len(own)
+
+
+class Curve:
+    """A curve through the averages that periods traded at. It does not change, and may be asked from several threads.
+
+    knots       -- numbers that rise: where the periods meet, in days, hours or whatever is counted
+    averages    -- as many: at each knot the average of the period that ends there. The first is not read, but must be finite
+    method      -- the settings; Method() where there are none
+    hold        -- the last period stays flat at its average
+    seam        -- (count, node): the node at that knot is given, for a curve that goes on from another
+    extrapolate -- whether points outside the knots are answered
+
+    Raises Refused, with the number and the words of the reason.
+    """
+
+    __slots__ = ("_knots", "_traded", "_nodes", "_tags", "_slots", "_tail", "_method", "_hold", "_extrapolate", "_asked", "_sections")
+
+    def __init__(
+        self,
+        knots: Many,
+        averages: Many,
+        method: Optional[Method] = None,
+        *,
+        hold: bool = False,
+        seam: Optional[Tuple[int, float]] = None,
+        extrapolate: bool = False,
+    ) -> None:
+        library = load()
+        method = _method(method)
+        xs, ys = _own(knots, "knots"), _own(averages, "averages")
+        where, node = (0, 0.0) if seam is None else (_numbers.count(seam[0], "the seam's count"), _numbers.one(seam[1], "the seam's node"))
+        room = _Room(len(xs))
+        number = library.havgrunel_build(*_table(xs, ys, method), hold, seam is not None, where, node, *room.lent())
+        _build_refusal(number, xs, ys)
+        self._hold_all(xs, ys, room, method, bool(hold), bool(extrapolate))
+
+    def _hold_all(self, xs: "array[float]", ys: "array[float]", room: _Room, method: Method, hold: bool, extrapolate: bool) -> None:
+        self._set(xs, ys, room.nodes, room.tags, room.slots, Tail(*room.tail), method, hold, extrapolate)
+
+    def _set(
+        self,
+        knots: "array[float]",
+        traded: "array[float]",
+        nodes: "array[float]",
+        tags: "array[int]",
+        slots: "array[float]",
+        tail: Tail,
+        method: Method,
+        hold: bool,
+        extrapolate: bool,
+    ) -> None:
+        self._knots, self._traded, self._nodes, self._tags, self._slots = knots, traded, nodes, tags, slots
+        self._tail, self._method, self._hold, self._extrapolate = tail, method, hold, extrapolate
+        self._asked = (*_lent(knots), *_lent(tags), *_lent(slots), *tail, extrapolate)
+        self._sections: Optional[Tuple[Section, ...]] = None
+
+    # ---- Other ways to a curve ----
+
+    @classmethod
+    def in_sheets(
+        cls, knots: Many, averages: Many, cuts: Iterable[int], method: Optional[Method] = None, *, extrapolate: bool = False
+    ) -> "Curve":
+        """The curve of a table, built in sheets that end at the cuts: numbers of inner knots, counted from 0, each above the one before.
+
+        It is the curve that Curve(knots, averages, method) is, bit for bit.
+        """
+        library = load()
+        method = _method(method)
+        xs, ys = _own(knots, "knots"), _own(averages, "averages")
+        ends = [_numbers.whole(cut, f"cuts: entry {k}") for k, cut in enumerate(cuts)]
+        # A number that no count of the library can hold is no inner knot either.
+        lent = (ctypes.c_size_t * len(ends))(*(cut if 0 <= cut <= MOST_POINTS else MOST_POINTS for cut in ends))
+        room = _Room(len(xs))
+        number = library.havgrunel_build_in_sheets(*_table(xs, ys, method), lent, len(ends), *room.lent())
+        _build_refusal(number, xs, ys, ends)
+        curve = cls.__new__(cls)
+        curve._hold_all(xs, ys, room, method, False, bool(extrapolate))
+        return curve
+
+    @classmethod
+    def first_window(
+        cls,
+        knots: Many,
+        averages: Many,
+        localisation: int,
+        final_size: int,
+        method: Optional[Method] = None,
+        *,
+        extrapolate: bool = False,
+    ) -> "Curve":
+        """The first curve of a table that grows by a point at a time: at most localisation + 1 points, which stand alone.
+
+        The last period is held until there are final_size points. The next curve is this one's `grow`.
+        """
+        return cls._grown(None, knots, averages, localisation, final_size, _method(method), bool(extrapolate))
+
+    def grow(self, knots: Many, averages: Many, localisation: int, final_size: int) -> "Curve":
+        """The next curve of a growing table: the whole table, a point longer than this curve's, with this curve's method.
+
+        Past the first window the sections that this curve keeps are gone on from.
+        """
+        return self._grown(self, knots, averages, localisation, final_size, self._method, self._extrapolate)
+
+    @classmethod
+    def _grown(
+        cls, previous: Optional["Curve"], knots: Many, averages: Many, localisation: int, final_size: int, method: Method, extrapolate: bool
+    ) -> "Curve":
+        library = load()
+        xs, ys = _own(knots, "knots"), _own(averages, "averages")
+        window, final = _numbers.count(localisation, "the localisation"), _numbers.count(final_size, "the final size")
+        kept: Tuple[Any, ...] = (False, 0, False, None, 0, None, 0)
+        if previous is not None:
+            kept = (True, len(previous._tags), previous._hold, *_lent(previous._tags), *_lent(previous._slots))
+        room = _Room(len(xs))
+        number = library.havgrunel_grow(*_table(xs, ys, method), window, final, *kept, *room.lent())
+        _build_refusal(number, xs, ys)
+        curve = cls.__new__(cls)
+        curve._hold_all(xs, ys, room, method, len(xs) != final, extrapolate)
+        return curve
+
+    def with_extrapolation(self, on: bool = True) -> "Curve":
+        """The same curve, with points outside the knots answered or not."""
+        other = type(self).__new__(type(self))
+        other._set(
+            self._knots, self._traded, self._nodes, self._tags, self._slots, self._tail, self._method, self._hold, bool(on)
+        )
+        return other
+
+    # ---- What it is made of ----
+
+    @property
+    def knots(self) -> "array[float]":
+        """A copy of the knots."""
+        return self._knots[:]
+
+    @property
+    def traded(self) -> "array[float]":
+        """A copy of the averages, as they were given."""
+        return self._traded[:]
+
+    @property
+    def nodes(self) -> "array[float]":
+        """A copy of the nodes: the price that the method puts at each knot."""
+        return self._nodes[:]
+
+    @property
+    def method(self) -> Method:
+        """The settings."""
+        return self._method
+
+    @property
+    def hold(self) -> bool:
+        """Whether the last period is held flat at its average."""
+        return self._hold
+
+    @property
+    def extrapolate(self) -> bool:
+        """Whether points outside the knots are answered."""
+        return self._extrapolate
+
+    @property
+    def tail(self) -> Tail:
+        """What answers from the last knot on."""
+        return self._tail
+
+    @property
+    def sections(self) -> Tuple[Section, ...]:
+        """The sections, one to a period."""
+        if self._sections is None:
+            self._sections = tuple(
+                Section(tag, tuple(self._slots[SLOTS * k : SLOTS * (k + 1)]), self._knots[k], self._knots[k + 1])
+                for k, tag in enumerate(self._tags)
+            )
+        return self._sections
+
+    # ---- What is asked of it ----
+
+    def value(self, x: float) -> float:
+        """The price at x."""
+        return self._told(load().havgrunel_value, x)
+
+    def primitive(self, x: float) -> float:
+        """The total of all prices from the first knot up to x."""
+        return self._told(load().havgrunel_primitive, x)
+
+    def values(self, xs: Many) -> Any:
+        """The price at each of xs, as the kind of sequence that xs is: a list, an array, a numpy array or a pandas Series with the index of xs.
+
+        All or nothing: where one is refused, Refused says which was the first.
+        """
+        lent = _numbers.many(xs, "xs")
+        return lent.like.given(self._told_all(load().havgrunel_values, lent))
+
+    def primitives(self, xs: Many) -> Any:
+        """The total of all prices from the first knot up to each of xs, as `values` has it."""
+        lent = _numbers.many(xs, "xs")
+        return lent.like.given(self._told_all(load().havgrunel_primitives, lent))
+
+    def averages(self, edges: Many) -> Any:
+        """What the curve averages from each edge to the next: one answer less than there are edges, which must rise.
+
+        An answer is (total at the right edge - total at the left edge) / (right - left), and each of the three steps is rounded once. It comes as the kind
+        of sequence that the edges are; a pandas Series has the index of the left edges.
+        """
+        lent = _numbers.many(edges, "edges")
+        if lent.count == 0:
+            raise ValueError("there are no edges, and averages lie between them")
+        totals = self._told_all(load().havgrunel_primitives, lent)
+        if hasattr(totals, "dtype"):
+            return lent.like.given(_numpy_quotients(lent.buffer, totals))
+        return lent.like.given(_quotients(memoryview(lent.buffer), totals))
+
+    def _told(self, function: Callable[..., int], x: float) -> float:
+        answer = ctypes.c_double()
+        number = function(*self._asked, _numbers.one(x, "x"), ctypes.byref(answer), 1)
+        if number:
+            raise Refused(number)
+        return answer.value
+
+    def _told_all(self, function: Callable[..., int], xs: Lent) -> Any:
+        answers = xs.like.room(xs.count)
+        number = function(*self._asked, xs.pointer(), xs.count, _numbers.pointer(answers, 0, xs.count), xs.count)
+        if number:
+            raise Refused(number, self._first_refused(function, xs))
+        return answers
+
+    def _first_refused(self, function: Callable[..., int], xs: Lent) -> Optional[int]:
+        """Which of xs is the first that is refused. Half of those that are left are asked at a time."""
+        low, high = 0, xs.count
+        spare = _numbers.zeros(xs.count)
+        into = _numbers.pointer(spare, 0, xs.count)
+        while high - low > 1:
+            middle = (low + high) // 2
+            if function(*self._asked, xs.pointer(low), middle - low, into, xs.count):
+                high = middle
+            else:
+                low = middle
+        return low if high else None
+
+    # ---- As an object ----
+
+    def __repr__(self) -> str:
+        settings = f"quadraticity {self._method.quadraticity:g}, monotonicity {self._method.monotonicity:g}"
+        periods = len(self._tags)
+        return (
+            f"<Curve of {periods} period{'s' * (periods != 1)} from {self._knots[0]:g} to {self._knots[-1]:g}, {settings}, "
+            f"positivity {'on' if self._method.positivity else 'off'}>"
+        )
+
+    def __reduce__(self) -> Tuple[Any, ...]:
+        parts = (
+            self._knots, self._traded, self._nodes, self._tags, self._slots, tuple(self._tail), self._method, self._hold, self._extrapolate
+        )
+        return _again, (type(self), *parts)
+
+
+def _again(cls: type, *parts: Any) -> Curve:
+    """A curve from its parts, for pickle."""
+    *buffers, tail, method, hold, extrapolate = parts
+    curve = cls.__new__(cls)
+    curve._set(*buffers, Tail(*tail), method, hold, extrapolate)
+    return curve
+
+
+def _method(method: Optional[Method]) -> Method:
+    if method is None:
+        return Method()
+    if not isinstance(method, Method):
+        raise TypeError(f"the method is a {type(method).__name__}, and a Method is meant, as Method(quadraticity=0.3)")
+    return method
+
+
+def _own(numbers: Many, what: str) -> "array[float]":
+    """A copy of the caller's numbers that is the curve's own."""
+    return _numbers.many(numbers, what).copy()
+
+
+def _table(xs: "array[float]", ys: "array[float]", method: Method) -> Tuple[Any, ...]:
+    return (*_lent(xs), *_lent(ys), method.quadraticity, method.monotonicity, method.positivity)
+
+
+def _build_refusal(number: int, xs: "array[float]", ys: "array[float]", cuts: Iterable[int] = ()) -> None:
+    """Raises the refusal of a build, with the knot, average or cut that is to blame."""
+    if number == 0:
+        return
+    to_blame = {
+        5: (not math.isfinite(x) for x in xs),
+        6: (not math.isfinite(y) for y in ys),
+        7: (k > 0 and not xs[k - 1] < x for k, x in enumerate(xs)),
+        28: (not before < cut < len(xs) - 1 for before, cut in zip([0, *cuts], cuts)),
+    }
+    raise Refused(number, next((k for k, fault in enumerate(to_blame.get(number, ())) if fault), None))
+
+
+def _falls(k: int, left: float, right: float) -> ValueError:
+    return ValueError(f"edges must rise, and entry {k + 1}, which is {right!r}, is not above the one before it, {left!r}")
+
+
+def _quotients(edges: memoryview, totals: "array[float]") -> "array[float]":
+    held = array("d")
+    ahead = zip(edges, islice(edges, 1, None), totals, islice(totals, 1, None))
+    for k, (left, right, start, end) in enumerate(ahead):
+        if not left < right:
+            raise _falls(k, left, right)
+        held.append((end - start) / (right - left))
+    return held
+
+
+def _numpy_quotients(edges: Any, totals: Any) -> Any:
+    """The same, for numpy arrays: the very same three steps, many at a time."""
+    numpy = sys.modules["numpy"]
+    edges = numpy.asarray(edges)
+    falling = numpy.flatnonzero(~(edges[:-1] < edges[1:]))
+    if len(falling):
+        k = int(falling[0])
+        raise _falls(k, float(edges[k]), float(edges[k + 1]))
+    with numpy.errstate(all="ignore"):
+        return (totals[1:] - totals[:-1]) / (edges[1:] - edges[:-1])
