@@ -1,0 +1,369 @@
+"""An order as a person writes it: settings, a table, and what is asked, with the line of each."""
+
+import datetime
+import math
+import re
+from dataclasses import dataclass, field
+from fractions import Fraction
+from typing import Callable, Dict, List, Optional, Sequence, Tuple, Union
+
+from .faults import Bad, Stop, quoted
+from .periods import NUMBER, Item, items, number, unknown
+from .strips import Strip, distance, kind_of
+
+# A century of days and more, or four years of hours. It keeps a slip in a date from asking for rows without end.
+MOST_ROWS = 40000
+
+# Where something was said: a line of the file, or an option of the command line.
+Line = Union[int, str]
+
+
+@dataclass
+class Points:
+    """Points that are asked for one by one: as numbers, and as they were written."""
+
+    line: Line
+    at: List[float]
+    shown: List[str]
+
+
+@dataclass
+class Rows:
+    """Rows from the first knot to the last: 'daily', 'hourly' or 'every 0.25', and the edges between them. The last row may be shorter than the others."""
+
+    line: Line
+    word: str
+    step: float
+    edges: List[float]
+
+
+@dataclass
+class Order:
+    """An order, as it was read. The first average is 0.0 where it was left out. With dates, knots count days or hours from the start on."""
+
+    name: str
+    settings: Dict[str, object]
+    unit: str = ""
+    dates: bool = False
+    start: Union[datetime.date, datetime.datetime, None] = None
+    knots: List[float] = field(default_factory=list)
+    averages: List[float] = field(default_factory=list)
+    asked: List[Union[Points, Rows]] = field(default_factory=list)
+    knot_lines: List[int] = field(default_factory=list)
+    average_lines: List[int] = field(default_factory=list)
+    setting_lines: Dict[str, Line] = field(default_factory=dict)
+
+    def place(self, line: Optional[Line]) -> str:
+        """Where a message points to."""
+        return self.name if line is None else f"{self.name}:{line}" if isinstance(line, int) else f"{self.name}: {line}"
+
+    def bad(self, line: Optional[Line], what: object) -> Stop:
+        return Stop(2, f"{self.place(line)}: {what}", placed=True)
+
+
+# ---- How a point is shown ----
+
+
+def plain(x: float) -> str:
+    """The shortest text that reads back as the same number."""
+    text = repr(float(x))
+    return text[:-2] if text.endswith(".0") else text
+
+
+def moment(order: Order, x: float) -> Optional[datetime.datetime]:
+    """The moment of a point of a table of dates, to the microsecond, and nothing where the calendar has none."""
+    if order.start is None or not math.isfinite(x):
+        return None
+    length = 3600 if order.unit == "hours" else 86400
+    try:
+        count = round(x * length * 1e6)
+        # A thirtieth of a day has no exact float; what is left of that is no part of the time.
+        whole = round(count, -6)
+        start = datetime.datetime(order.start.year, order.start.month, order.start.day)
+        if isinstance(order.start, datetime.datetime):
+            start = order.start
+        return start + datetime.timedelta(microseconds=whole if abs(count - whole) <= 50 else count)
+    except OverflowError:
+        return None
+
+
+def on_a_day(when: Optional[datetime.datetime]) -> bool:
+    return when is None or (when.hour, when.minute, when.second, when.microsecond) == (0, 0, 0, 0)
+
+
+def show(order: Order, x: float, clock: bool = False) -> str:
+    """A point as a person writes it: a date, a timestamp or a number. A day is told with its time where the table has times, or where one is asked for."""
+    when = moment(order, x)
+    if when is None:
+        return plain(x)
+    if on_a_day(when) and order.unit == "days" and not clock:
+        return when.date().isoformat()
+    return when.isoformat(" ", "minutes" if when.second == when.microsecond == 0 else "auto")
+
+
+def needs_clock(order: Order, xs: Sequence[float]) -> bool:
+    """Whether one of these points is no whole day, so that all of them are told with their time."""
+    return order.start is not None and any(not on_a_day(moment(order, x)) for x in xs)
+
+
+# ---- Settings ----
+
+
+def words(value: str) -> str:
+    if not value:
+        raise Bad("the setting has no value")
+    return value
+
+
+def switch(value: str) -> bool:
+    if value.lower() not in ("on", "off"):
+        raise Bad(f"{quoted(value)} is neither 'on' nor 'off'")
+    return value.lower() == "on"
+
+
+def not_read(value: str) -> str:
+    if " ".join(value.lower().split()) != "not read":
+        raise Bad(f"the first average can be said to be 'not read', and this says {quoted(value)}")
+    return "not read"
+
+
+def figure(value: str) -> float:
+    return number(value.replace("\u2212", "-"))
+
+
+# Each setting: how its value is read, and what it is where it is left out. The numbers are the library's own defaults.
+SETTINGS: Dict[str, Tuple[Callable[[str], object], object]] = {
+    "title": (words, ""),
+    "price": (words, ""),
+    "time": (words, ""),
+    "quadraticity": (figure, 0.3),
+    "monotonicity": (figure, 0.7),
+    "positivity": (switch, True),
+    "hold last period": (switch, False),
+    "extrapolation": (switch, False),
+    "first average": (not_read, ""),
+}
+
+# Those that shape the curve. A table's heading tells the first three always and the others where they are on.
+METHOD = ["quadraticity", "monotonicity", "positivity", "hold last period", "extrapolation"]
+
+# A setting's line starts with words and a colon. What is asked and knots have a digit before any colon.
+SETTING = re.compile(r"\s*([^\W\d_][^\d:#]*):(.*)", re.DOTALL)
+
+
+def split_setting(text: str) -> Optional[Tuple[str, str]]:
+    """The key and the value of a setting's line, without its comment, and nothing where the line is none. In words of the user's own a number sign
+    before a letter or a digit belongs to them: title: Gas #1."""
+    found = SETTING.fullmatch(text)
+    if found is None:
+        return None
+    key = " ".join(found[1].lower().split())
+    comment = r"(^|\s)#(?=\s|$).*" if key in ("title", "price", "time") else r"(^|\s)#.*"
+    return key, re.sub(comment, "", found[2]).strip()
+
+
+def read_setting(order: Order, key: str, value: str, line: Line) -> None:
+    if key not in SETTINGS:
+        raise Bad(f"there is no setting {quoted(key)}; there are: {', '.join(SETTINGS)}")
+    if key in order.setting_lines:
+        first = order.setting_lines[key]
+        raise Bad(f"'{key}' is set twice, first {f'in line {first}' if isinstance(first, int) else f'by {first}'}")
+    order.setting_lines[key] = line
+    order.settings[key] = SETTINGS[key][0](value)
+
+
+# ---- What is asked ----
+
+ASKING = ("at", "daily", "hourly", "every")
+
+
+def edges(first: float, last: float, step: Fraction) -> List[float]:
+    """Edges from the first knot to the last, a step apart, each the float that is nearest to it: decimals count as they are written, and a day of 24ths
+    ends on the day."""
+    begin, end = Fraction(repr(first)), Fraction(repr(last))
+    common = math.lcm(begin.denominator, step.denominator)
+    start, stride = int(begin * common), int(step * common)
+    return [(start + k * stride) / common for k in range(math.ceil((end - begin) / step))] + [last]
+
+
+def step_of(order: Order, word: str, parts: List[str]) -> Fraction:
+    """The length of a row in the table's own unit."""
+    if word == "every":
+        if len(parts) != 2:
+            raise Bad(f"'every' has one step, a number of {order.unit or order.settings['time'] or 'the unit of the knots'}")
+        value = number(parts[1].replace("\u2212", "-"))
+        if not (math.isfinite(value) and value > 0):
+            raise Bad(f"a step is above 0, and this is {quoted(parts[1])}")
+        return Fraction(parts[1]) if NUMBER.fullmatch(parts[1]) else Fraction(value)
+    if len(parts) > 1:
+        raise Bad(f"'{word}' stands alone in its line")
+    if order.unit == "":
+        raise Bad(f"'{word}' needs knots that count days or hours, and the time is in {quoted(str(order.settings['time']))}; 'every STEP' asks for rows in that unit")
+    return {"days": {"daily": Fraction(1), "hourly": Fraction(1, 24)}, "hours": {"daily": Fraction(24), "hourly": Fraction(1)}}[order.unit][word]
+
+
+def read_rows(order: Order, word: str, parts: List[str], line: Line) -> Rows:
+    """The rows of one line. Where the knots have no rows the build is refused, and nothing needs asking."""
+    step = step_of(order, word, parts)
+    told = " ".join([word, *parts[1:]])
+    if len(order.knots) < 2 or not (math.isfinite(order.knots[0]) and math.isfinite(order.knots[-1]) and order.knots[0] < order.knots[-1]):
+        return Rows(line, told, float(step), [])
+    count = (Fraction(order.knots[-1]) - Fraction(order.knots[0])) / step
+    if count > MOST_ROWS:
+        raise Bad(f"{quoted(told)} asks for {short(count)} rows, and at most {MOST_ROWS} are answered")
+    found = edges(order.knots[0], order.knots[-1], step)
+    if not all(a < b for a, b in zip(found, found[1:])):
+        raise Bad(f"{quoted(told)} is too small a step beside knots of {plain(order.knots[-1])}")
+    return Rows(line, told, float(step), found)
+
+
+def short(count: Fraction) -> str:
+    whole = math.ceil(count)
+    return str(whole) if whole < 10**15 else "more than 10^15"
+
+
+def read_points(order: Order, found: List[Item], line: Line) -> Points:
+    if not found:
+        raise Bad("'at' has no points")
+    return Points(line, [point(order, one) for one in found], [one.text for one in found])
+
+
+def point(order: Order, found: Item) -> float:
+    """A point that is asked for, in the table's own unit."""
+    if found.kind == "period":
+        raise Bad(f"{quoted(found.text)} is a period, and 'at' takes points, as 2026-10-15")
+    if found.kind == "other":
+        raise unknown(found) if order.dates else Bad(str(number_fault(found.text)))
+    if order.knots and (found.kind == "moment") != order.dates:
+        raise Bad(f"{quoted(found.text)} is {kind_of(found)}, and the first knot is {'a date' if order.dates else 'a number'}")
+    if found.moment is None:
+        return number(found.text)
+    if order.start is None:
+        return 0.0
+    start = order.start if isinstance(order.start, datetime.datetime) else datetime.datetime(order.start.year, order.start.month, order.start.day)
+    return distance(start, found.moment, order.unit == "hours")
+
+
+def number_fault(word: str) -> Bad:
+    try:
+        number(word)
+    except Bad as fault:
+        return fault
+    return Bad(f"{quoted(word)} is not a number")
+
+
+def read_asked(order: Order, text: str, line: Line) -> Union[Points, Rows]:
+    """One line that asks."""
+    parts = text.split()
+    word = parts[0].lower()
+    if word == "at":
+        return read_points(order, items(" ".join(parts[1:])), line)
+    return read_rows(order, word, parts, line)
+
+
+# ---- The whole ----
+
+
+def begin(name: str, sets: Sequence[str]) -> Order:
+    """An order with the defaults, and with the settings of the command line."""
+    order = Order(name, {key: default for key, (_, default) in SETTINGS.items()})
+    for text in sets:
+        line = f"--set {quoted(text)}"
+        found = split_setting(text)
+        try:
+            if found is None:
+                raise Bad("a setting is a key, a colon and a value")
+            read_setting(order, *found, line)
+        except Bad as fault:
+            raise order.bad(line, fault) from None
+    return order
+
+
+def unit_of(order: Order, strip: Strip, words_asked: Sequence[str]) -> str:
+    """What a knot counts: 'days', 'hours', or '' where nobody says."""
+    said = str(order.settings["time"]).lower()
+    if order.dates:
+        unit = "hours" if strip.clocked else "days"
+        if said and said != unit:
+            raise order.bad(order.setting_lines["time"], f"the knots are {'timestamps' if strip.clocked else 'dates'} and count {unit}, and the time is said to be in {quoted(str(order.settings['time']))}")
+        return unit
+    if said:
+        return said if said in ("days", "hours") else ""
+    asked = {"daily": "days", "hourly": "hours"}
+    units = {asked[word] for word in words_asked if word in asked}
+    if len(units) > 1:
+        raise order.bad(None, "'daily' and 'hourly' are asked of knots that are numbers: a setting 'time: days' or 'time: hours' says what they count")
+    return units.pop() if units else ""
+
+
+def finish(order: Order, strip: Strip, asked: Sequence[Tuple[Line, str]]) -> Order:
+    """The order, once its table is whole."""
+    order.dates = bool(strip.points) and not strip.counts()
+    order.knots, order.averages = strip.knots(), strip.averages
+    order.knot_lines = order.average_lines = strip.lines
+    order.unit = unit_of(order, strip, [text.split()[0].lower() for _, text in asked])
+    if order.dates:
+        start = strip.points[0]
+        assert isinstance(start, datetime.datetime)
+        order.start = start if strip.clocked else start.date()
+    for line, text in asked:
+        try:
+            order.asked.append(read_asked(order, text, line))
+        except Bad as fault:
+            raise order.bad(line, fault) from None
+    return order
+
+
+def options_asked(order: Order, asks: Sequence[str]) -> List[Tuple[Line, str]]:
+    """What the command line asks."""
+    found: List[Tuple[Line, str]] = []
+    for text in asks:
+        line = f"--ask {quoted(text)}"
+        if not text.split() or text.split()[0].lower() not in ASKING:
+            raise order.bad(line, "what is asked is 'daily', 'hourly', 'every STEP' or 'at POINT ..'")
+        found.append((line, text))
+    return found
+
+
+def read_order(name: str, data: bytes, sets: Sequence[str] = (), asks: Sequence[str] = ()) -> Order:
+    """The order that a text says. `sets` and `asks` are settings and lines that ask, of the command line."""
+    order = begin(name, sets)
+    more = options_asked(order, asks)
+    try:
+        text = data.decode("utf-8-sig")
+    except UnicodeDecodeError as fault:
+        raise order.bad(data.count(b"\n", 0, fault.start) + 1, "this is not UTF-8 text") from None
+    strip: Optional[Strip] = None
+    asked: List[Tuple[Line, str]] = []
+    line = 1
+    for line, whole in enumerate(text.rstrip("\n").split("\n"), 1):
+        try:
+            strip = read_line(order, strip, asked, whole, line)
+        except Bad as fault:
+            raise order.bad(line, fault) from None
+    if not asked and not more:
+        raise order.bad(line, "nothing is asked: a line 'daily', 'hourly', 'every STEP', or 'at' with points, is missing")
+    return finish(order, strip or Strip(), asked + more)
+
+
+def read_line(order: Order, strip: Optional[Strip], asked: List[Tuple[Line, str]], whole: str, line: int) -> Optional[Strip]:
+    """Takes one line of a text; answers the table so far."""
+    setting = split_setting(whole)
+    if setting is not None:
+        if strip is not None or asked:
+            raise Bad("settings come before the first knot")
+        read_setting(order, *setting, line)
+        return strip
+    kept = re.sub(r"(^|\s)#.*", "", whole).strip()
+    if not kept:
+        return strip
+    if kept.split()[0].lower() in ASKING:
+        if len(kept.split()) == 1 and kept.lower() == "at":
+            raise Bad("'at' has no points")
+        asked.append((line, kept))
+        return strip
+    if asked:
+        raise Bad("knots come before what is asked")
+    strip = strip or Strip(order.settings["first average"] == "not read")
+    strip.add(items(kept), line)
+    return strip
