@@ -20,11 +20,11 @@ Line = Union[int, str]
 
 @dataclass
 class Points:
-    """Points that are asked for one by one: as numbers, and as they were written."""
+    """Points that are asked for one by one, of all lines that ask so: as numbers, as they were written, and the line of each."""
 
-    line: Line
     at: List[float]
     shown: List[str]
+    lines: List[Line]
 
 
 @dataclass
@@ -225,7 +225,7 @@ def short(count: Fraction) -> str:
 def read_points(order: Order, found: List[Item], line: Line) -> Points:
     if not found:
         raise Bad("'at' has no points")
-    return Points(line, [point(order, one) for one in found], [one.text for one in found])
+    return Points([point(order, one) for one in found], [one.text for one in found], [line] * len(found))
 
 
 def point(order: Order, found: Item) -> float:
@@ -308,10 +308,21 @@ def finish(order: Order, strip: Strip, asked: Sequence[Tuple[Line, str]]) -> Ord
         order.start = start if strip.clocked else start.date()
     for line, text in asked:
         try:
-            order.asked.append(read_asked(order, text, line))
+            ask(order, read_asked(order, text, line))
         except Bad as fault:
             raise order.bad(line, fault) from None
     return order
+
+
+def ask(order: Order, more: Union[Points, Rows]) -> None:
+    """Asks one thing more. Points make one table, however many lines ask for them."""
+    before = next((one for one in order.asked if isinstance(one, Points)), None)
+    if isinstance(more, Points) and before is not None:
+        before.at += more.at
+        before.shown += more.shown
+        before.lines += more.lines
+    else:
+        order.asked.append(more)
 
 
 def options_asked(order: Order, asks: Sequence[str]) -> List[Tuple[Line, str]]:

@@ -1,0 +1,289 @@
+"""An order's answer: its curve, the rows that are asked for, what each period holds, and what a reader should be told.
+
+Every price and every total comes from a proved function. The average over a row is (total at its end - total at its start) / length, Python's own
+subtraction and division.
+"""
+
+import bisect
+import math
+from dataclasses import dataclass, field
+from typing import Dict, List, NamedTuple, Optional, Sequence, Tuple, Union
+
+from .curve import Curve, Method
+from .refusals import Refused
+from .text import Order, Points, Rows, moment, needs_clock, show
+from .faults import Stop
+
+# How far what a period holds may lie from what it traded at before it counts as lost, as a part of the largest number that goes into it: its average, its
+# nodes, or the totals at its ends over its length. In 10,000 drawn strips with positivity off and a monotonicity of up to 0.99 rounding alone came to
+# 3e-12, the more the nearer the monotonicity is to 1; in strips that lose, the least loss was 5e-5. tests/test_answers.py draws both again.
+ROUNDING = 1e-9
+
+# Inner points of a period where its lowest price is looked for.
+LOOKS = 20
+
+# So many lines of one kind are told; the rest is counted.
+MOST_TOLD = 12
+
+
+class AtPoint(NamedTuple):
+    """An answer to 'at': the point, its price and the total up to it."""
+
+    at: float
+    price: float
+    total: float
+
+
+class OverRow(NamedTuple):
+    """An answer to 'daily' and its kin: a row's start and end, its average, the price at its start and the total at its end."""
+
+    start: float
+    end: float
+    average: float
+    price: float
+    total: float
+
+
+@dataclass
+class Answered:
+    """One thing that was asked, and its answers."""
+
+    asked: Union[Points, Rows]
+    rows: Sequence[Union[AtPoint, OverRow]]
+
+    def numbers(self) -> List[Tuple[float, ...]]:
+        """The answers of each row, without its point."""
+        return [tuple(row[2:] if isinstance(row, OverRow) else row[1:]) for row in self.rows]
+
+
+@dataclass
+class Held:
+    """What a period traded at, and what the curve holds over it. `scale` is the largest number that goes into it."""
+
+    period: int
+    traded: float
+    held: float
+    scale: float
+
+    @property
+    def kept(self) -> bool:
+        return abs(self.held - self.traded) <= ROUNDING * self.scale
+
+
+@dataclass
+class Answer:
+    """All that is answered of an order. `before` and `after` are lines that are told around the table."""
+
+    order: Order
+    curve: Curve
+    tables: List[Answered]
+    held: List[Held]
+    before: List[str] = field(default_factory=list)
+    after: List[str] = field(default_factory=list)
+    not_finite: int = 0
+
+    @property
+    def lost(self) -> List[Held]:
+        return [one for one in self.held if not one.kept]
+
+    @property
+    def status(self) -> int:
+        return 4 if self.lost or self.not_finite else 0
+
+
+# ---- The curve and its rows ----
+
+
+def curve_of(order: Order) -> Curve:
+    """The curve of an order's table. A refusal is told with the line that caused it."""
+    s = order.settings
+    try:
+        method = Method(s["quadraticity"], s["monotonicity"], s["positivity"])
+        return Curve(order.knots, order.averages, method, hold=bool(s["hold last period"]), extrapolate=bool(s["extrapolation"]))
+    except Refused as refused:
+        line = blamed(order, refused)
+        raise Stop(1, f"{order.place(line)}: refused: {refused.words} (refusal {refused.number})", placed=True) from None
+
+
+def blamed(order: Order, refused: Refused) -> Optional[Union[int, str]]:
+    """The line of the text that a refusal is about, where there is one."""
+    if refused.number in (2, 3):
+        return order.setting_lines.get("monotonicity" if refused.number == 2 else "quadraticity")
+    if refused.number == 10:
+        return order.knot_lines[4096]
+    if refused.number in (5, 7) and refused.index is not None:
+        return order.knot_lines[refused.index]
+    if refused.number == 6 and refused.index is not None:
+        return order.average_lines[refused.index]
+    return None
+
+
+def at_points(order: Order, curve: Curve, asked: Points) -> List[AtPoint]:
+    try:
+        return [AtPoint(*row) for row in zip(asked.at, curve.values(asked.at), curve.primitives(asked.at))]
+    except Refused:
+        raise Stop(1, *refused_points(order, curve, asked), placed=True) from None
+
+
+def refused_points(order: Order, curve: Curve, asked: Points) -> List[str]:
+    """A line for each point that is refused."""
+    lines = []
+    for x, shown, line in zip(asked.at, asked.shown, asked.lines):
+        try:
+            curve.value(x)
+        except Refused as refused:
+            lines.append(f"{order.place(line)}: refused at {shown}: {refused.words} (refusal {refused.number})")
+    return lines
+
+
+def over_rows(curve: Curve, asked: Rows) -> List[OverRow]:
+    starts, ends = asked.edges[:-1], asked.edges[1:]
+    return [OverRow(*row) for row in zip(starts, ends, curve.averages(asked.edges), curve.values(starts), curve.primitives(ends))]
+
+
+def answer(order: Order) -> Answer:
+    """The whole answer. Raises Stop where the table or a point is refused."""
+    curve = curve_of(order)
+    tables = []
+    for asked in order.asked:
+        rows = at_points(order, curve, asked) if isinstance(asked, Points) else over_rows(curve, asked)
+        tables.append(Answered(asked, rows))
+    found = Answer(order, curve, tables, holdings(order, curve))
+    found.before = below_averages(order)
+    found.not_finite, lines = not_finite(found)
+    found.after = lines + below_prices(found)
+    return found
+
+
+# ---- What a period holds ----
+
+
+def holdings(order: Order, curve: Curve) -> List[Held]:
+    """What each period holds, by its own section: at its right knot a query is answered by the next one, which starts from the traded total."""
+    found = []
+    nodes = curve.nodes
+    for k, section in enumerate(curve.sections):
+        length = section.x_next - section.x_prev
+        start, end = section.primitive(section.x_prev), section.primitive(section.x_next)
+        traded = order.averages[k + 1]
+        scale = max(abs(traded), abs(nodes[k]), abs(nodes[k + 1]), abs(start) / length, abs(end) / length)
+        found.append(Held(k + 1, traded, (end - start) / length, scale))
+    return found
+
+
+def period(order: Order, number: int) -> str:
+    """A period as messages name it."""
+    ends = order.knots[number - 1 : number + 1]
+    clock = needs_clock(order, ends)
+    return f"{show(order, ends[0], clock)} to {show(order, ends[1], clock)}"
+
+
+# ---- What is told besides ----
+
+
+def told(lines: List[str], order: Order, what: str) -> List[str]:
+    """The first lines, and how many more there are."""
+    if len(lines) <= MOST_TOLD:
+        return lines
+    return [*lines[:MOST_TOLD], f"{order.name}: and {len(lines) - MOST_TOLD} more {what}"]
+
+
+def below_averages(order: Order) -> List[str]:
+    """Averages at or below 0 with positivity on, which no curve above 0 can hold."""
+    if not order.settings["positivity"]:
+        return []
+    lines = [
+        f"{order.place(order.average_lines[k])}: {period(order, k)} traded at {short(average)}, and positivity is for averages above 0; 'positivity: off' takes any"
+        for k, average in enumerate(order.averages)
+        if k > 0 and average <= 0
+    ]
+    return told(lines, order, "averages at or below 0")
+
+
+def short(x: float) -> str:
+    """A number in a message."""
+    return f"{x:.4f}" if 1e-3 <= abs(x) < 1e12 or x == 0 else f"{x:.4g}"
+
+
+def period_at(order: Order, x: float) -> int:
+    """The number of the period that answers at x, from 1 on."""
+    return min(max(bisect.bisect_right(order.knots, x), 1), len(order.knots) - 1)
+
+
+def looks(order: Order) -> List[List[float]]:
+    """The points of each period where its prices are looked at: its left knot and inner points."""
+    found = []
+    for a, b in zip(order.knots, order.knots[1:]):
+        inner = [a + (b - a) * (k / (LOOKS + 1)) for k in range(LOOKS + 1)]
+        found.append([x for x in inner if a <= x < b])
+    return found
+
+
+def near(order: Order, x: float) -> str:
+    """A point that nobody asked for, told as closely as it helps: a day, a minute, or six digits."""
+    when = moment(order, x)
+    if when is None:
+        return f"{x:.6g}"
+    return when.date().isoformat() if order.unit == "days" else when.isoformat(" ", "minutes")
+
+
+def not_finite(found: Answer) -> Tuple[int, List[str]]:
+    """How many answers are not finite, printed or looked at, and a line to each period that has one."""
+    order, curve = found.order, found.curve
+    printed = sum(not all(map(math.isfinite, numbers)) for table in found.tables for numbers in table.numbers())
+    places: Dict[int, float] = {}
+    for x in asked_points(found) + [x for inside in looks(order) for x in inside]:
+        if not (math.isfinite(curve.value(x)) and math.isfinite(curve.primitive(x))):
+            places.setdefault(period_at(order, x), x)
+    lines = [f"{order.place(order.average_lines[k])}: no finite price or total at {near(order, x)}, in the period {period(order, k)}: {cause(order, k)}" for k, x in sorted(places.items())]
+    if printed:
+        count = sum(len(table.rows) for table in found.tables)
+        lines.append(f"{order.name}: {printed} of {count} answers {'is' if printed == 1 else 'are'} not finite; docs/SHAPES.md says which tables do that")
+    return max(printed, len(places)), told(lines, order, "periods with no finite price")
+
+
+def asked_points(found: Answer) -> List[float]:
+    return [x for table in found.tables for x in (table.asked.at if isinstance(table.asked, Points) else table.asked.edges)]
+
+
+def cause(order: Order, k: int) -> str:
+    """Why a period has a price that is not finite."""
+    average, s = order.averages[k], order.settings
+    if s["positivity"] and average == 0:
+        return "it traded at exactly 0, with positivity on"
+    if s["positivity"] and average < 0:
+        return "it traded below 0, with positivity on"
+    beside = [order.averages[j] for j in (k - 1, k + 1) if 1 <= j < len(order.averages)]
+    if s["monotonicity"] == 1 and average in beside:
+        return "it traded as its neighbour did, at monotonicity 1"
+    return "its numbers are too large or too small for a 64-bit float on the way"
+
+
+def below_prices(found: Answer) -> List[str]:
+    """Prices and averages below 0 with positivity on: the lowest of each period, printed or not."""
+    order, curve = found.order, found.curve
+    if not order.settings["positivity"]:
+        return []
+    lowest: Dict[int, Tuple[float, str]] = {}
+    scales = {one.period: one.scale for one in found.held}
+
+    def look(x: float, value: float, what: str) -> None:
+        k = period_at(order, x)
+        if value < -ROUNDING * scales[k] and value < lowest.get(k, (0.0, ""))[0]:
+            lowest[k] = (value, what)
+
+    inner = [x for inside in looks(order) for x in inside]
+    for x, price in zip(inner, curve.values(inner)):
+        look(x, price, f"the price near {near(order, x)}")
+    for section in curve.sections:
+        value = section.value(section.x_next)
+        look(section.x_prev, value, f"the price just before {show(order, section.x_next)}")
+    for table in found.tables:
+        for row in table.rows:
+            if isinstance(row, OverRow):
+                look(row.start, row.price, f"the price at {show(order, row.start)}")
+                look(row.start, row.average, f"the average from {show(order, row.start)} to {show(order, row.end)}")
+            else:
+                look(row.at, row.price, f"the price at {show(order, row.at)}")
+    lines = [f"{order.place(order.average_lines[k])}: {what} is {short(value)}, below 0 although positivity is on" for k, (value, what) in sorted(lowest.items())]
+    return told(lines, order, "periods with a price below 0")

@@ -1,0 +1,202 @@
+"""Answers a strip of traded averages: day by day, hour by hour or at points, as a table, a CSV file or a picture.
+
+An order is a short text. Settings come first, then the table, then what is asked:
+
+    title: Gas, winter 2026/27       # for the table and the picture; may be left out, as every setting may
+    price: EUR/MWh                   # the unit of a price
+    time: days                       # what a knot counts, where knots are numbers; dates count days, timestamps hours
+    quadraticity: 0.3                # from 0 to 1
+    monotonicity: 0.7                # from 0 to 1
+    positivity: on                   # on or off
+    hold last period: off            # on or off: the last period stays flat at its average
+    extrapolation: off               # on or off: points outside the knots are answered
+
+    2026-10      29.40               # a period by its name, and the price that it traded at
+    Nov-26       31.85
+    2026-12-01 2027-01-01 33.60      # START END PRICE: END is where the next period starts
+    Q1-27        32.50
+
+    daily                            # what each day averages; also: hourly, every 0.25
+    at 2026-10-15 2026-11-15         # the price at points, as many lines as you like
+
+The numbers above are the defaults of the library. Names of periods are 2026-10, Oct-26, Oct 2026, 2026-Q4, Q4-26, winter 2026, Win-26
+(October to March), summer 2027, Sum-27 (April to September), 2027, Cal-27. Periods must adjoin.
+
+The other form of a table has a knot to a line, with the average of the period that ends there. The first knot stands alone:
+
+    2026-10-01
+    2026-11-01  29.40
+    2026-12-01  31.85
+
+A knot is a number, a day (2026-10-01) or a timestamp (2026-10-01 14:00), which has no zone: clock changes are not handled, and a day has 24 hours.
+A first knot with an average is an error, unless 'first average: not read' says that it stands for nothing. The case of words does not matter. From #
+on, at the start of a line or after a space, is a comment.
+
+For each day or hour the table has the average over it, the price at its start and the running total at its end. Under it stands what became of the
+averages: all of them kept, or which were not.
+
+A file whose name ends in .csv or .tsv is a table alone: rows of (period, price), (start, end, price) or (knot, average). Its separator, its decimal sign
+and its heading are found out. It asks 'daily' where --ask asks nothing else.
+"""
+
+import argparse
+import os
+import sys
+from typing import List, Optional, Sequence
+
+from . import __version__
+from ._library import LibraryMissing, load
+from .answers import Answer, answer
+from .csvfile import is_table, read_csv
+from .faults import Bad, Stop, quoted
+from .files import guard, read, tell, write
+from .orderbytes import whole
+from .periods import number
+from .tables import check, file_text, printed
+from .text import Order, Rows, read_order
+
+STATUSES = """\
+exit status:
+  0    answered
+  1    refused, by the number of a refusal
+  2    the text or the command line is wrong
+  3    something could not be read, written or made
+  4    answered, with a period that lost its average or a price that is not finite
+"""
+
+# One picture shows so many curves.
+MOST_CURVES = 4
+
+
+def parser_of(prog: str) -> argparse.ArgumentParser:
+    about, _, text = (__doc__ or "").partition("\n\n")
+    parser = argparse.ArgumentParser(
+        prog=prog, description=about, epilog=f"{text}\n{STATUSES}", formatter_class=argparse.RawDescriptionHelpFormatter, allow_abbrev=False
+    )
+    parser.add_argument("files", metavar="FILE", nargs="+", help="an order, or a table as .csv or .tsv; '-' is an order on standard input. Several are for --plot: one table under several settings")
+    instead = parser.add_mutually_exclusive_group()
+    instead.add_argument("--plot", metavar="SVG", help="draw the curve into this file instead ('-' is standard output)")
+    instead.add_argument("--csv", metavar="FILE", help="write the table with every digit into this file instead ('-' is standard output)")
+    instead.add_argument("--tsv", metavar="FILE", help="the same with tabs")
+    instead.add_argument("--bytes", metavar="FILE", help="write the order's bytes, as target/bin/curveorder takes them, into this file instead")
+    instead.add_argument("--exact", action="store_true", help="print each number so that it reads back as the same float")
+    parser.add_argument("--set", metavar="SETTING", action="append", default=[], help="a setting more, as 'quadraticity: 0'; may be given several times")
+    parser.add_argument("--ask", metavar="WORDS", action="append", default=[], help="what is asked besides, as 'hourly' or 'at 2026-10-15'; may be given several times")
+    parser.add_argument("--scale", metavar="LOW:HIGH", help="the prices that a picture's axis spans, so that two pictures can be compared")
+    parser.add_argument("--version", action="version", version=f"havgrunel {__version__}")
+    return parser
+
+
+def read_one(path: str, sets: Sequence[str], asks: Sequence[str]) -> Order:
+    data = read(path)
+    name = "standard input" if path == "-" else path
+    return (read_csv if is_table(path) else read_order)(name, data, sets, asks)
+
+
+def one_table(orders: Sequence[Order]) -> None:
+    """A picture shows one table under several settings."""
+    if len(orders) > MOST_CURVES:
+        raise Stop(2, f"one picture shows at most {MOST_CURVES} curves")
+    first = orders[0]
+    for order in orders[1:]:
+        if (order.knots, order.averages[1:], order.dates, order.start) != (first.knots, first.averages[1:], first.dates, first.start):
+            raise Stop(2, f"one picture shows one table under several settings, and {order.name} has another table than {first.name}")
+
+
+def scale_of(text: Optional[str]) -> Optional[tuple]:
+    """The two prices of --scale."""
+    if text is None:
+        return None
+    low, colon, high = text.replace("\u2212", "-").partition(":")
+    try:
+        found = number(low), number(high)
+    except Bad as fault:
+        raise Stop(2, f"--scale {quoted(text)}: {fault}; a scale is LOW:HIGH") from None
+    if not colon or not found[0] < found[1]:
+        raise Stop(2, f"--scale {quoted(text)}: a scale is LOW:HIGH, the lower price first")
+    return found
+
+
+def drawn(answers: Sequence[Answer], scale: Optional[tuple]) -> bytes:
+    from . import picture
+
+    try:
+        text = picture.draw([one.order for one in answers], [one.curve for one in answers], scale)
+    except ValueError as fault:
+        raise Stop(1, f"the picture cannot be drawn: {fault}") from None
+    return text.encode("utf-8", "surrogateescape")
+
+
+def only_table(order: Order, option: str) -> None:
+    """A file has one table."""
+    if len(order.asked) > 1:
+        kinds = [one.word if isinstance(one, Rows) else "at" for one in order.asked]
+        raise Stop(2, f"{order.name} asks for {' and '.join(kinds)}, and {option} writes one table: ask for one of them", placed=True)
+
+
+def tell_all(answers: Sequence[Answer], checked: bool) -> None:
+    """What is told after the table, and the check where no table shows it."""
+    for one in answers:
+        for line in one.after:
+            tell(line)
+        if not checked and one.lost:
+            for line in check(one):
+                tell(f"{one.order.name}: {line.strip()}")
+
+
+def run(asked: argparse.Namespace) -> int:
+    """Answers the command line; what goes wrong is raised as Stop."""
+    option, target = next(((f"--{name}", path) for name, path in vars(asked).items() if name in ("plot", "csv", "tsv", "bytes") and path is not None), (None, "-"))
+    if len(asked.files) > 1 and option != "--plot":
+        raise Stop(2, "several files are for --plot")
+    scale = scale_of(asked.scale)
+    orders = [read_one(path, asked.set, asked.ask) for path in asked.files]
+    if option == "--plot":
+        one_table(orders)
+    if option in ("--csv", "--tsv"):
+        only_table(orders[0], option)
+    if option is not None and target != "-":
+        guard(target, option, asked.files)
+    if option == "--bytes":
+        write(target, whole(orders[0]))
+        return 0
+    load(progress=True)
+    answers = [answer(order) for order in orders]
+    for one in answers:
+        for line in one.before:
+            tell(line)
+    if option == "--plot":
+        data = drawn(answers, scale)
+    elif option is not None:
+        data = file_text(answers[0], "," if option == "--csv" else "\t").encode()
+    else:
+        data = printed(answers[0], asked.exact).encode("utf-8", "surrogateescape")
+    write(target, data)
+    tell_all(answers, option is None)
+    return max(one.status for one in answers)
+
+
+def name_of(program: str) -> str:
+    name = os.path.basename(program)
+    return "havgrunel" if name in ("", "__main__.py", "-c", "-m") else name
+
+
+def main(argv: Optional[List[str]] = None) -> int:
+    """The command: answers its exit status. Nothing that a user does ends in a traceback."""
+    prog = name_of(sys.argv[0] if sys.argv else "")
+    try:
+        return run(parser_of(prog).parse_args(argv))
+    except Stop as stop:
+        for line in stop.lines:
+            tell(line if stop.placed else f"{prog}: {line}")
+        return stop.status
+    except LibraryMissing as missing:
+        for line in str(missing).splitlines():
+            tell(line)
+        return 3
+    except KeyboardInterrupt:
+        tell(f"{prog}: stopped by Ctrl-C")
+        return 130
+    except MemoryError:
+        tell(f"{prog}: there is not enough memory")
+        return 3

@@ -1,0 +1,133 @@
+"""Answers as a printed table, with the check of each period under it, and as the rows of a CSV file."""
+
+import math
+from typing import List, Sequence, Tuple
+
+from .answers import Answer, Answered, AtPoint, OverRow, period, short
+from .csvfile import POINT_NAMES, ROW_NAMES, full, written
+from .text import METHOD, Order, Points, Rows, needs_clock, plain, show
+
+# What the first column of rows is called.
+ROW_HEADS = {"daily": "day", "hourly": "hour"}
+
+
+def shown(x: float, exact: bool) -> str:
+    """A number of the table."""
+    if math.isnan(x):
+        return "no-number"
+    if math.isinf(x):
+        return "infinite" if x > 0 else "-infinite"
+    if exact:
+        return plain(x)
+    if abs(x) >= 1e12:
+        return f"{x:.10e}"
+    text = f"{x:.4f}"
+    return text[1:] if float(text) == 0 and text[0] == "-" else text
+
+
+def of(count: int, noun: str) -> str:
+    return f"{count} {noun}" if count == 1 else f"{count} {noun}s"
+
+
+def told(key: str, value: object) -> str:
+    """A setting in words."""
+    return f"{key} {plain(value)}" if isinstance(value, float) else f"{key} {'on' if value else 'off'}"
+
+
+def heading(order: Order) -> List[str]:
+    """The title, where there is one, and the settings of the method."""
+    s = order.settings
+    settings = [told(key, s[key]) for k, key in enumerate(METHOD) if k < 3 or s[key]]
+    return [*([str(s["title"])] if s["title"] else []), ", ".join([of(len(order.knots) - 1, "period"), *settings])]
+
+
+def units(order: Order) -> Tuple[str, str, str]:
+    """The units of a point, of a price and of a total. Dates need none."""
+    price, time = str(order.settings["price"]), str(order.settings["time"]) or order.unit
+    return "" if order.dates else time, price, f"{price} x {time}" if price and time else ""
+
+
+def laid_out(heads: Sequence[Sequence[str]], rows: Sequence[Sequence[str]]) -> List[str]:
+    """Columns under their heads, the first to the left and the others to the right."""
+    wide = [max(len(row[k]) for row in [*heads, *rows]) for k in range(len(heads[0]))]
+
+    def line(row: Sequence[str]) -> str:
+        return "   ".join(f"{cell:>{w}}" if k else f"{cell:<{w}}" for k, (cell, w) in enumerate(zip(row, wide))).rstrip()
+
+    dashes = "  ".join("-" * (w + (1 if k else 0)) for k, w in enumerate(wide))
+    return [*map(line, heads), dashes, *map(line, rows)]
+
+
+def point_table(order: Order, table: Answered, exact: bool) -> List[str]:
+    point, price, total = units(order)
+    heads = [("day" if order.unit == "days" and order.dates else "point", "price", "running total")]
+    if price or point or total:
+        heads.append((point, price, total))
+    assert isinstance(table.asked, Points)
+    rows = []
+    for row, written_as in zip(table.rows, table.asked.shown):
+        assert isinstance(row, AtPoint)
+        rows.append((written_as, shown(row.price, exact), shown(row.total, exact)))
+    return laid_out(heads, rows)
+
+
+def row_table(order: Order, table: Answered, exact: bool) -> List[str]:
+    """Averages first: a price at a day's start is no price of the day."""
+    assert isinstance(table.asked, Rows)
+    point, price, total = units(order)
+    heads = [(ROW_HEADS.get(table.asked.word, "from"), "average", "price at its start", "running total at its end")]
+    if price or point or total:
+        heads.append((point, price, price, total))
+    clock = needs_clock(order, table.asked.edges)
+    rows = []
+    for row in table.rows:
+        assert isinstance(row, OverRow)
+        rows.append((show(order, row.start, clock), *(shown(x, exact) for x in row[2:])))
+    lines = laid_out(heads, rows)
+    note = short_last(order, table.asked)
+    return [*lines, note] if note else lines
+
+
+def short_last(order: Order, asked: Rows) -> str:
+    """A note on a last row that is shorter than the others."""
+    if len(asked.edges) < 2 or len(asked.edges) == 2 and asked.edges[1] - asked.edges[0] >= asked.step:
+        return ""
+    length = asked.edges[-1] - asked.edges[-2]
+    if length >= asked.step * (1 - 1e-9):
+        return ""
+    unit = order.unit or str(order.settings["time"])
+    return f"The last row ends at {show(order, asked.edges[-1])}: it is {length:.6g}{' ' + unit if unit else ''} long, and the others {asked.step:.6g}."
+
+
+def check(answer: Answer) -> List[str]:
+    """What each period holds beside what it traded at: one line where all averages are kept, and else a line for each that is not."""
+    count, lost = len(answer.held), answer.lost
+    if not lost:
+        return ["the average is kept" if count == 1 else f"all {count} averages kept"]
+    lines = [f"{len(lost)} of {of(count, 'average')} not kept:"]
+    order = answer.order
+    for one in lost:
+        held = f"holds {short(one.held)}" if math.isfinite(one.held) else "has no finite total"
+        lines.append(f"  {period(order, one.period)} traded at {short(one.traded)} and {held} (line {order.average_lines[one.period]})")
+    if any(math.isfinite(one.held) for one in lost):
+        lines.append("  The rows around the ends of such a period carry the difference; docs/SHAPES.md says how to keep away from this.")
+    return lines
+
+
+def printed(answer: Answer, exact: bool = False) -> str:
+    """The whole text: heading, tables and check."""
+    lines = heading(answer.order)
+    for table in answer.tables:
+        lay_out = point_table if isinstance(table.asked, Points) else row_table
+        lines += ["", *lay_out(answer.order, table, exact)]
+    return "\n".join([*lines, "", *check(answer)]) + "\n"
+
+
+def file_text(answer: Answer, separator: str) -> str:
+    """One table as CSV or TSV, every digit of it."""
+    order, table = answer.order, answer.tables[0]
+    if isinstance(table.asked, Points):
+        clock = needs_clock(order, table.asked.at)
+        return written(POINT_NAMES, ([show(order, row[0], clock), *map(full, row[1:])] for row in table.rows), separator)
+    clock = needs_clock(order, table.asked.edges)
+    return written(ROW_NAMES, ([show(order, row[0], clock), show(order, row[1], clock), *map(full, row[2:])] for row in table.rows), separator)
