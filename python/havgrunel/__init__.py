@@ -8,7 +8,8 @@ A market quotes one average for a whole month; a curve gives a price at every mo
     >>> round(sum(days[:31]) / 31, 10)
     29.4
 
-Every price comes from a proved function of the library. A refusal is the exception Refused, with its number and its words. docs/PYTHON.md has the rest.
+Every price comes from a proved function of the library. A refusal is the exception Refused, with its number and its words. docs/PYTHON.md has the
+rest.
 """
 
 from ._library import MOST_POINTS, SLOTS, LibraryMissing

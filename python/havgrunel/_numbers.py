@@ -15,6 +15,8 @@ Many = Iterable[SupportsFloat]
 
 # Formats of the buffer protocol that are the machine's own double.
 _DOUBLES = ("d", "@d", "=d", "<d" if sys.byteorder == "little" else ">d")
+# Formats of other numbers, in the order of the machine's own bytes.
+_NUMBERS = tuple("bBhHiIlLqQnNfe?")
 # Text and things without an order are iterable too, and are not meant.
 _NOT_MANY = (str, bytes, bytearray, dict, set, frozenset)
 _KINDS = {"c": "complex numbers", "M": "dates", "m": "spans of time", "S": "bytes", "U": "text", "V": "records"}
@@ -100,11 +102,13 @@ def one(x: Any, what: str) -> float:
     except TypeError:
         count = None
     if count is not None:
-        raise TypeError(f"{what} is one number, and this is a {type(x).__name__} of {count}")
+        raise TypeError(f"{what} is one number, and this is of the type {type(x).__name__}, with {count} entries")
     try:
         return float(x)
     except TypeError:
         raise TypeError(f"{what} is {_quoted(x)}, which is not a number{_dates_hint(x)}") from None
+    except OverflowError:
+        raise OverflowError(f"{what} is too large for a float") from None
 
 
 def whole(x: Any, what: str) -> int:
@@ -135,7 +139,8 @@ def many(xs: Any, what: str) -> Lent:
     if hasattr(xs, "__array_interface__"):
         return _of_numpy(xs, what, NUMPY)
     if isinstance(xs, _NOT_MANY):
-        raise TypeError(f"{what} is a {type(xs).__name__}, and a sequence of numbers is meant")
+        hint = "; memoryview(xs).cast('d') reads bytes as doubles" if isinstance(xs, (bytes, bytearray)) else ""
+        raise TypeError(f"{what} is of the type {type(xs).__name__}, and a sequence of numbers is meant{hint}")
     try:
         view = memoryview(xs)
     except TypeError:
@@ -169,8 +174,8 @@ def _of_buffer(xs: Any, view: memoryview, what: str) -> Lent:
     if view.ndim != 1:
         raise TypeError(f"{what} has {view.ndim} dimensions, and a sequence of numbers has one")
     if view.format not in _DOUBLES:
-        if view.format.lstrip("@=<>!") in ("c", "u", "w", "s", "p", "P", "Zd", "Zf"):
-            raise TypeError(f"{what} is a {type(xs).__name__} of the format {view.format!r}, which is not one of numbers")
+        if view.format not in _NUMBERS:
+            raise TypeError(f"{what} is of the type {type(xs).__name__} and has the format {view.format!r}, which is none of numbers")
         return _copied(xs, what, ARRAYS)
     if view.readonly or not view.c_contiguous:
         own = array("d")
@@ -205,7 +210,7 @@ def _copied(xs: Any, what: str, kind: Kind) -> Lent:
 def _quoted(x: Any) -> str:
     text = repr(x)
     text = text if len(text) <= 40 else text[:37] + "..."
-    return text if x is None or isinstance(x, (str, bytes, bytearray, complex)) else f"{text} (a {type(x).__name__})"
+    return text if x is None or isinstance(x, (str, bytes, bytearray, int, float, complex)) else f"{text}, of the type {type(x).__name__}"
 
 
 def _dates_hint(x: Any) -> str:

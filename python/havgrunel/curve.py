@@ -104,7 +104,7 @@ class Curve:
         xs, ys = _own(knots, "knots"), _own(averages, "averages")
         where, node = (0, 0.0) if seam is None else (_numbers.count(seam[0], "the seam's count"), _numbers.one(seam[1], "the seam's node"))
         room = _Room(len(xs))
-        number = library.havgrunel_build(*_table(xs, ys, method), hold, seam is not None, where, node, *room.lent())
+        number = library.havgrunel_build(*_table(xs, ys, method), bool(hold), seam is not None, where, node, *room.lent())
         _build_refusal(number, xs, ys)
         self._hold_all(xs, ys, room, method, bool(hold), bool(extrapolate))
 
@@ -162,16 +162,16 @@ class Curve:
         *,
         extrapolate: bool = False,
     ) -> "Curve":
-        """The first curve of a table that grows by a point at a time: at most localisation + 1 points, which stand alone.
+        """The first curve of a table that grows by a point at a time: its first localisation + 1 points, which stand alone.
 
-        The last period is held until there are final_size points. The next curve is this one's `grow`.
+        The last period is held until there are final_size points. `grow` makes the next curve of this one.
         """
         return cls._grown(None, knots, averages, localisation, final_size, _method(method), bool(extrapolate))
 
     def grow(self, knots: Many, averages: Many, localisation: int, final_size: int) -> "Curve":
-        """The next curve of a growing table: the whole table, a point longer than this curve's, with this curve's method.
+        """The next curve of a growing table: `knots` and `averages` are the whole table, a point longer than this curve's.
 
-        Past the first window the sections that this curve keeps are gone on from.
+        It has this curve's method, and goes on where this curve's last section that was not held ended.
         """
         return self._grown(self, knots, averages, localisation, final_size, self._method, self._extrapolate)
 

@@ -1,0 +1,303 @@
+"""Curves, their sections, growth and sheets, by the numbers that the requirements and c/test.c have."""
+
+import copy
+import math
+import pickle
+import random
+import struct
+import unittest
+from array import array
+from concurrent.futures import ThreadPoolExecutor
+
+import havgrunel
+from havgrunel import MOST_POINTS, SLOTS, Curve, Method, Refused
+
+THREE = ([0.0, 1.0, 2.0], [0.0, 1.0, 3.0], Method(0.0, 1.0, False))
+GROWING = ([0.0, 1.0, 2.5, 3.0, 5.0], [0.0, 1.0, 3.0, 2.0, 2.5])
+
+
+def bits(numbers):
+    """Numbers by their bits: -0.0 is not 0.0, and a NaN is itself."""
+    return array("d", numbers).tobytes()
+
+
+def drawn(seed, periods):
+    """A table of drawn months: (knots, averages)."""
+    draw = random.Random(seed)
+    knots, averages = [0.0], [0.0]
+    for _ in range(periods):
+        knots.append(knots[-1] + draw.choice([1.0, 28.0, 30.0, 31.0, 92.0, draw.uniform(0.1, 40.0)]))
+        averages.append(draw.uniform(1.0, 90.0))
+    return knots, averages
+
+
+class Refusing(unittest.TestCase):
+    """Adds a word for calls that must be refused."""
+
+    def refused(self, number, index, call, *words, **named):
+        with self.assertRaises(Refused) as caught:
+            call(*words, **named)
+        self.assertEqual((caught.exception.number, caught.exception.index), (number, index))
+
+
+class Building(Refusing):
+    def test_the_worked_order(self):
+        curve = Curve([0, 2], [9, 2], Method(0, 0, False))
+        self.assertEqual(curve.values([1, 2]), [2.0, 2.0])
+        self.assertEqual(curve.primitives([1, 2]), [2.0, 4.0])
+        self.assertEqual(curve.tail, (2.0, 0.0, 0.0))
+        self.assertEqual([section.kind for section in curve.sections], ["EverywhereConstant"])
+
+    def test_three_points(self):
+        curve = Curve(*THREE)
+        self.assertEqual(curve.nodes, array("d", [0.5, 2.0, 3.5]))
+        self.assertEqual([hex(section.tag) for section in curve.sections], ["0x2000", "0x2000"])
+        self.assertEqual((curve.tail.value, curve.tail.total, curve.tail.from_), (3.5, 4.0, 2.0))
+        self.assertEqual(curve.values([1.5, 0.5, 1.0, 2.0]), [3.125, 0.875, 2.0, 3.5])
+        self.assertEqual([curve.value(x) for x in (1.5, 0.5, 1.0, 2.0)], [3.125, 0.875, 2.0, 3.5])
+        self.assertEqual((curve.primitive(1.0), curve.primitives((1.0, 2.0))), (1.0, [1.0, 4.0]))
+
+    def test_a_held_last_period(self):
+        curve = Curve(*THREE, hold=True)
+        self.assertTrue(curve.hold)
+        self.assertEqual((curve.value(1.5), curve.primitive(1.5), curve.tail), (3.0, 2.5, (3.0, 1.0, 1.0)))
+
+    def test_a_seam(self):
+        self.assertEqual(Curve(*THREE, seam=(1, 1.0)).nodes[1], 1.0)
+        self.refused(8, None, Curve, *THREE, seam=(2, 1.0))
+
+    def test_the_settings_that_are_left_out(self):
+        self.assertEqual(Method(), Method(0.3, 0.7, True))
+        self.assertEqual(Curve([0, 1], [0, 1]).method, Method())
+        self.assertEqual(Method(monotonicity=1), Method(0.3, 1.0, True))
+
+    def test_what_was_given_is_copied(self):
+        knots, averages = array("d", THREE[0]), array("d", THREE[1])
+        curve = Curve(knots, averages, THREE[2])
+        knots[1] = averages[1] = 77.0
+        curve.knots[1] = curve.traded[1] = curve.nodes[1] = 77.0
+        self.assertEqual((curve.knots.tolist(), curve.traded.tolist(), curve.value(1.5)), (THREE[0], THREE[1], 3.125))
+        knots.append(1.0)
+
+    def test_the_longest_table(self):
+        knots = list(range(MOST_POINTS))
+        curve = Curve(knots, [30.0 + k % 7 for k in knots])
+        self.assertEqual(len(curve.sections), MOST_POINTS - 1)
+        self.assertAlmostEqual(curve.averages([4094, 4095])[0], 30.0 + 4095 % 7, 9)
+        self.refused(10, None, Curve, range(MOST_POINTS + 1), range(MOST_POINTS + 1))
+
+    def test_refused_tables(self):
+        nan, inf = math.nan, math.inf
+        self.refused(1, None, Curve, [0, 1, 2], [0, 1])
+        self.refused(2, None, Curve, [0, 1], [0, 1], Method(2, nan, True))
+        self.refused(3, None, Curve, [0, 1], [0, 1], Method(2, 0.5, True))
+        self.refused(4, None, Curve, [0], [0])
+        self.refused(4, None, Curve, [], [])
+        self.refused(5, 1, Curve, [0, inf, 2], [nan, 1, 3])
+        self.refused(6, 0, Curve, [0, 1, 1], [nan, 1, 3])
+        self.refused(7, 2, Curve, [0, 1, 1], [0, 1, 3])
+
+    def test_a_method_that_is_none(self):
+        with self.assertRaisesRegex(TypeError, "a Method is meant"):
+            Curve([0, 1], [0, 1], (0.3, 0.7, True))
+        with self.assertRaisesRegex(TypeError, "quadraticity"):
+            Method("0.3")
+
+
+class Asking(Refusing):
+    def test_outside_the_knots(self):
+        curve = Curve(*THREE)
+        self.refused(13, None, curve.value, -1.0)
+        self.refused(13, None, curve.primitive, 2.5)
+        wide = curve.with_extrapolation()
+        self.assertEqual((wide.value(-1.0), wide.value(3.0), wide.primitive(3.0)), (2.0, 3.5, 7.5))
+        self.assertEqual(Curve(*THREE, extrapolate=True).values([-1.0]), [2.0])
+        self.assertEqual((curve.extrapolate, wide.extrapolate), (False, True))
+        self.refused(13, None, wide.with_extrapolation(False).value, -1.0)
+        self.refused(12, None, wide.value, math.nan)
+
+    def test_the_first_that_is_refused(self):
+        curve = Curve(*THREE)
+        self.refused(13, 1, curve.values, [0.5, 2.5, math.nan, 1.0])
+        self.refused(12, 2, curve.with_extrapolation().primitives, [0.5, 2.5, math.nan, 1.0])
+        draw = random.Random(3)
+        for count in (1, 2, 3, 5, 64, 1000):
+            xs = [draw.uniform(0, 2) for _ in range(count)]
+            for at in {0, count // 2, count - 1}:
+                bad = xs[:]
+                bad[at] = draw.choice([-1.0, math.nan])
+                bad[at + 1 :] = [draw.choice([x, math.nan, 9.0]) for x in bad[at + 1 :]]
+                self.refused(13 if bad[at] == -1.0 else 12, at, curve.values, array("d", bad))
+
+    def test_many_are_told_what_each_is_told(self):
+        for seed in range(20):
+            curve = Curve(*drawn(seed, 1 + seed), Method(seed / 20, 1 - seed / 20, seed % 2 == 0))
+            xs = [random.Random(seed).uniform(0, curve.knots[-1]) for _ in range(200)]
+            self.assertEqual(bits(curve.values(xs)), bits([curve.value(x) for x in xs]))
+            self.assertEqual(bits(curve.primitives(xs)), bits([curve.primitive(x) for x in xs]))
+
+    def test_no_points(self):
+        self.assertEqual((Curve(*THREE).values([]), Curve(*THREE).primitives(array("d"))), ([], array("d")))
+
+    def test_averages(self):
+        curve = Curve(*THREE)
+        edges = [0.0, 0.3, 1.0, 1.7, 2.0]
+        due = [(curve.primitive(b) - curve.primitive(a)) / (b - a) for a, b in zip(edges, edges[1:])]
+        self.assertEqual(bits(curve.averages(edges)), bits(due))
+        self.assertEqual(curve.averages((0, 1, 2)), [1.0, 3.0])
+        self.assertEqual((curve.averages([1.0]), curve.averages(array("d", [0, 2]))), ([], array("d", [2.0])))
+
+    def test_edges_that_do_not_rise(self):
+        curve = Curve(*THREE)
+        with self.assertRaisesRegex(ValueError, "entry 2, which is 1.0, is not above the one before it, 1.0"):
+            curve.averages([0, 1, 1, 2])
+        with self.assertRaisesRegex(ValueError, "no edges"):
+            curve.averages([])
+        self.refused(12, 1, curve.averages, [0, math.nan, 1])
+        self.refused(13, 2, curve.averages, [0, 1, 3])
+
+    def test_a_month_keeps_its_average(self):
+        """October's 31 days average what October traded at, to a few roundings."""
+        knots, averages = [0, 31, 61, 92, 123, 151, 182], [0, 29.40, 31.10, 32.85, 33.60, 32.20, 29.90]
+        days = Curve(knots, averages).averages(range(183))
+        for a, b, traded in zip(knots, knots[1:], averages[1:]):
+            self.assertAlmostEqual(math.fsum(days[a:b]) / (b - a), traded, 11)
+
+    def test_threads_share_a_curve(self):
+        curve = Curve(*drawn(1, 400))
+        xs = array("d", [curve.knots[-1] * k / 20000 for k in range(20000)])
+        due = bits(curve.values(xs))
+        with ThreadPoolExecutor(4) as pool:
+            for told in pool.map(lambda _: bits(curve.values(xs)), range(12)):
+                self.assertEqual(told, due)
+
+
+class Sections(unittest.TestCase):
+    def test_a_section_answers_at_its_right_knot(self):
+        curve = Curve(*THREE)
+        first = curve.sections[0]
+        self.assertEqual((first.x_prev, first.x_next, first.f_next), (0.0, 1.0, 2.0))
+        self.assertEqual((first.value(1.0), first.primitive(1.0), first.value(0.5)), (2.0, 1.0, 0.875))
+        self.assertEqual((first.kind, first.parts, first.split, len(first.slots)), ("Quadratic", ("Quadratic",), False, SLOTS))
+        self.assertIs(curve.sections, curve.sections)
+
+    def test_a_section_answers_as_the_curve(self):
+        kinds, splits = set(), 0
+        for seed in range(60):
+            knots, averages = drawn(seed, 12)
+            if seed % 3 == 0:
+                averages = [average - 20.0 for average in averages]
+            curve = Curve(knots, averages, Method((seed % 4) / 3, (seed % 5) / 4, seed % 2 == 0))
+            for section in curve.sections:
+                kinds.add(section.kind)
+                splits += section.split
+                for k in range(8):
+                    x = section.x_prev + (section.x_next - section.x_prev) * k / 8
+                    self.assertEqual(bits([section.value(x), section.primitive(x)]), bits([curve.value(x), curve.primitive(x)]))
+        for kind in ("Quadratic", "QuadraticMin", "ConvexMonotone2", "QuadraticMin + ConvexMonotone4Min"):
+            self.assertIn(kind, kinds)
+        self.assertGreater(splits, 0)
+
+    def test_every_tag_has_its_words(self):
+        names = {
+            0x0100: ("EverywhereConstant", False),
+            0x0200: ("ConstantGrad", False),
+            0x0300: ("ConvexMonotone2", False),
+            0x0400: ("ConvexMonotone3", False),
+            0x0500: ("ConvexMonotone4", False),
+            0x0600: ("ConvexMonotone4Min", False),
+            0x0680: ("ConvexMonotone4Min", True),
+            0x2000: ("Quadratic", False),
+            0x4000: ("QuadraticMin", False),
+            0x5000: ("QuadraticMin", True),
+            0x5680: ("QuadraticMin + ConvexMonotone4Min", True),
+            0x2300: ("Quadratic + ConvexMonotone2", False),
+        }
+        for tag, due in names.items():
+            section = havgrunel.Section(tag, (0.0,) * SLOTS, 0.0, 1.0)
+            self.assertEqual((section.kind, section.split), due)
+            section.value(0.5)
+
+    def test_a_tag_that_is_none(self):
+        with self.assertRaises(Refused) as caught:
+            havgrunel.Section(0xFFFF, (0.0,) * SLOTS, 0.0, 1.0).value(0.5)
+        self.assertEqual((caught.exception.number, caught.exception.name), (15, "RECORD_NOT_LEGAL"))
+
+
+class Growing(Refusing):
+    def part(self, count):
+        return GROWING[0][:count], GROWING[1][:count]
+
+    def test_growth(self):
+        first = Curve.first_window(*self.part(3), 2, 5)
+        alone = Curve(*self.part(3), hold=True)
+        self.assertEqual((first.nodes, first.sections, first.tail, first.hold), (alone.nodes, alone.sections, alone.tail, True))
+        second = first.grow(*self.part(4), 2, 5)
+        seamed = Curve(*self.part(4), hold=True, seam=(1, first.sections[0].f_next))
+        self.assertEqual((second.nodes, second.sections, second.tail), (seamed.nodes, seamed.sections, seamed.tail))
+        self.assertEqual(second.sections[0], first.sections[0])
+        third = second.grow(*self.part(5), 2, 5)
+        self.assertEqual((third.hold, third.sections[:2], third.method), (False, second.sections[:2], Method()))
+
+    def test_growth_is_refused(self):
+        self.refused(9, None, Curve.first_window, *self.part(4), 2, 5)
+        first = Curve.first_window(*self.part(3), 2, 5)
+        self.refused(7, 3, first.grow, [0, 1, 2.5, 2.5], [0, 1, 3, 2], 2, 5)
+        with self.assertRaisesRegex(ValueError, "the localisation is -1"):
+            first.grow(*self.part(4), -1, 5)
+        with self.assertRaisesRegex(TypeError, "the final size is 5.5"):
+            first.grow(*self.part(4), 2, 5.5)
+
+
+class InSheets(Refusing):
+    def test_sheets_make_the_same_curve(self):
+        for seed in range(10):
+            knots, averages = drawn(seed, 30)
+            whole = Curve(knots, averages)
+            for cuts in ((), (1,), (10, 20), range(1, 30), array("l", [29])):
+                parts = Curve.in_sheets(knots, averages, cuts)
+                self.assertEqual((bits(parts.nodes), parts.tail), (bits(whole.nodes), whole.tail))
+                self.assertEqual(pickle.dumps(parts.sections), pickle.dumps(whole.sections))
+
+    def test_cuts_that_are_none(self):
+        for cuts, index in (((0,), 0), ((1, 1), 1), ((1, 2, 4), 2), ((-1,), 0), ((2**64 + 1,), 0), ((3, 2), 1)):
+            self.refused(28, index, Curve.in_sheets, *GROWING, cuts)
+        with self.assertRaisesRegex(TypeError, "cuts: entry 1 is 1.5"):
+            Curve.in_sheets(*GROWING, [1, 1.5])
+
+
+class Objects(unittest.TestCase):
+    def test_pickle_and_copy(self):
+        curve = Curve(*drawn(5, 40), Method(0.2, 0.9, False), hold=True, extrapolate=True)
+        for other in (pickle.loads(pickle.dumps(curve)), copy.copy(curve), copy.deepcopy(curve)):
+            self.assertEqual((other.knots, other.traded, other.nodes), (curve.knots, curve.traded, curve.nodes))
+            self.assertEqual((other.tail, other.method, other.hold, other.extrapolate), (curve.tail, curve.method, True, True))
+            self.assertEqual(other.sections, curve.sections)
+            self.assertEqual(other.values([-1.0, 3.0, 1e6]), curve.values([-1.0, 3.0, 1e6]))
+
+    def test_a_refusal_is_pickled(self):
+        refusal = pickle.loads(pickle.dumps(Refused(13, 4)))
+        self.assertEqual((refusal.number, refusal.index, refusal.name), (13, 4, "QUERY_OUTSIDE"))
+        self.assertEqual(str(refusal), "the point that is asked for lies outside the knots, and extrapolation is off (refusal 13, index 4)")
+        self.assertEqual(str(Refused(4)), "there are fewer than two knots (refusal 4)")
+        self.assertIsInstance(refusal, ValueError)
+
+    def test_repr(self):
+        self.assertEqual(repr(Curve(*THREE)), "<Curve of 2 periods from 0 to 2, quadraticity 0, monotonicity 1, positivity off>")
+
+    def test_a_curve_does_not_change(self):
+        curve = Curve(*THREE)
+        for name in ("knots", "traded", "nodes", "tail", "method", "hold", "extrapolate", "sections", "more"):
+            with self.assertRaises(AttributeError):
+                setattr(curve, name, None)
+
+    def test_sqrt(self):
+        self.assertEqual((havgrunel.sqrt(2), havgrunel.sqrt(2.25), math.isnan(havgrunel.sqrt(-1.0))), (math.sqrt(2), 1.5, True))
+        for seed in range(500):
+            (x,) = struct.unpack("<d", random.Random(seed).getrandbits(63).to_bytes(8, "little"))
+            if x == x:
+                self.assertEqual(bits([havgrunel.sqrt(x)]), bits([math.sqrt(x)]))
+
+
+if __name__ == "__main__":
+    unittest.main()
