@@ -23,6 +23,7 @@ POINT_NAMES = ["point", "price", "total"]
 Row = Tuple[int, List[str]]
 
 DIGITS = re.compile(r"[+-]?[0-9][0-9.,']*|[+-]?[.,][0-9]+")
+NUMERIC = re.compile(r"[+-]?([0-9]+([.,][0-9]*)?|[.,][0-9]+|[0-9]{1,3}(\.[0-9]{3})+(,[0-9]*)?|[0-9]{1,3}(,[0-9]{3})+(\.[0-9]*)?)")
 GROUPED = {",": re.compile(r"[+-]?[0-9]{1,3}(\.[0-9]{3})+(,[0-9]*)?"), ".": re.compile(r"[+-]?[0-9]{1,3}(,[0-9]{3})+(\.[0-9]*)?")}
 THREE = re.compile(r"[+-]?[1-9][0-9]{0,2},[0-9]{3}")
 
@@ -73,7 +74,7 @@ class Located(Bad):
 
 def is_heading(cells: Sequence[str]) -> bool:
     """A row above the table: no cell of it is a number, a day or a period."""
-    return not any(cell and (DIGITS.fullmatch(cell) or known(cell)) for cell in cells)
+    return not any(cell and (known(cell) or NUMERIC.fullmatch(cell)) for cell in cells)
 
 
 def known(cell: str) -> bool:

@@ -145,15 +145,19 @@ class Strip:
         before, after, line = self.points[-2], self.points[-1], self.lines[-1]
         if start == after:
             return
-        here, there = told(start, self.clocked), told(after, self.clocked)
         if (start, end) == (before, after):
             raise Bad(f"the period of line {line} stands here again")
-        if start < before:
-            raise Bad(f"this period starts at {here}, before that of line {line}, which starts at {told(before, self.clocked)}; periods stand in the order of time")
+        here, there = self.told_span(start, end), self.told_span(before, after)
+        if end <= before:
+            raise Bad(f"this period ({here}) comes before that of line {line} ({there}); periods stand in the order of time")
         if start < after:
-            raise Bad(f"this period and that of line {line} overlap: this one starts at {here}, and that one ends at {there}")
+            raise Bad(f"this period ({here}) and that of line {line} ({there}) overlap")
         hint = "; END is the day after the last day, where the next period starts" if self.by_ends and isinstance(start, datetime.datetime) and start - after == A_DAY else ""
-        raise Bad(f"there is a gap between line {line} and this one: that period ends at {there}, and this one starts at {here}{hint}")
+        ends, starts = told(after, self.clocked), told(start, self.clocked)
+        raise Bad(f"there is a gap between line {line} and this one: that period ends at {ends}, and this one starts at {starts}{hint}")
+
+    def told_span(self, start: Point, end: Point) -> str:
+        return f"{told(start, self.clocked)} to {told(end, self.clocked)}"
 
     def knots(self) -> List[float]:
         """The knots as numbers: days since the first where all are days, hours since the first where one is a timestamp."""
