@@ -7,6 +7,7 @@ repository that this package lies in the one that tools/archive makes. Only the 
 import ctypes
 import os
 import platform
+import shutil
 import subprocess
 import sys
 import threading
@@ -89,27 +90,27 @@ def _made(progress: Optional[bool]) -> str:
     if sys.platform != "linux":
         raise LibraryMissing(
             f"havgrunel: the library of proved functions is made for Linux on x86-64 and Arm, and this system is {platform.system() or sys.platform}.\n"
-            "README.md, under 'What it needs', says what runs where."
+            "README.md says what is needed."
         )
+    if shutil.which("rt") is None:
+        raise LibraryMissing(_no_kit())
     words = [archive, "--shared"] + ([] if progress is None else ["--progress" if progress else "--quiet"])
     try:
         made = subprocess.run(words, stdin=subprocess.DEVNULL, stdout=subprocess.PIPE, check=False)
     except OSError as fault:
         raise LibraryMissing(f"havgrunel: tools/archive, which makes the library, cannot be run: {fault.strerror}.") from None
     if made.returncode != 0:
-        raise LibraryMissing(_why_not_made(made.returncode))
+        raise LibraryMissing(f"havgrunel: the library of proved functions could not be made (tools/archive ended with status {made.returncode}).")
     return os.fsdecode(made.stdout).rstrip("\n").rpartition("\n")[2]
 
 
-def _why_not_made(status: int) -> str:
-    """What to do where tools/archive has told on standard error why it made no library."""
+def _no_kit() -> str:
     built = os.path.join(REPOSITORY, "target", "native", FILE)
     if os.path.exists(built):
-        return f"havgrunel: there is a library from an earlier run; {VARIABLE}={built} uses it as it is."
-    return (
-        f"havgrunel: the library of proved functions could not be made (tools/archive ended with status {status}).\n"
-        f"It takes the Rattle kit, or a library that was made elsewhere and that the variable {VARIABLE} names; README.md says more."
-    )
+        way = f"The one of an earlier run is used, as it is, with {VARIABLE}={built}."
+    else:
+        way = f"A library that was made elsewhere is used where the variable {VARIABLE} names it; README.md says what else is needed."
+    return f"havgrunel: it takes the Rattle kit (rt on the path) to make the library of proved functions, and there is none here.\n{way}"
 
 
 def _opened(path: str) -> ctypes.CDLL:
