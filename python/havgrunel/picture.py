@@ -14,7 +14,6 @@ from typing import Dict, List, Optional, Sequence, Tuple
 from xml.sax.saxutils import escape
 
 from .curve import Curve
-from .faults import Stop
 from .lettering import width, wrap
 from .text import METHOD, Order, Points, Rows, plain, show
 from .ticks import Mark, fitting_numbers, moments, numbers
@@ -153,11 +152,11 @@ def content(orders: Sequence[Order], curves: Sequence[Curve]) -> Content:
     first = orders[0]
     for order in orders[1:]:
         if (order.knots, order.averages[1:], order.dates, order.start) != (first.knots, first.averages[1:], first.dates, first.start):
-            raise Stop(2, f"one picture shows one table under several settings, and {order.name} has another table than {first.name}")
+            raise ValueError(f"one picture shows one table under several settings, and {order.name} has another table than {first.name}")
     if len(orders) > len(DASHES):
-        raise Stop(2, f"one picture shows at most {len(DASHES)} curves")
+        raise ValueError(f"one picture shows at most {len(DASHES)} curves")
     if not math.isfinite((first.knots[-1] - first.knots[0]) * 3):
-        raise Stop(1, "the knots lie too far apart to be drawn")
+        raise ValueError("the knots lie too far apart to be drawn")
     drawn = [sampled(order, curve) for order, curve in zip(orders, curves)]
     left = min(curve.stretches[0][0][0] for curve in drawn)
     right = max(curve.stretches[-1][-1][0] for curve in drawn)
@@ -181,7 +180,7 @@ def heights(shown: Content) -> Scale:
     pad = (high - low) * 0.06 or abs(high) * 0.1 or 1.0
     low, high = low - pad if low != 0 else low, high + pad
     if not math.isfinite((high - low) * 4):
-        raise Stop(1, "the prices lie too far apart to be drawn")
+        raise ValueError("the prices lie too far apart to be drawn")
     return low, high
 
 
@@ -242,11 +241,12 @@ def text_at(x: float, y: float, text: str, more: str = "") -> str:
 
 
 def draw(orders: Sequence[Order], curves: Sequence[Curve], scale: Optional[Scale] = None) -> str:
-    """The picture of orders with one table, and of their curves. A scale is the lowest price and the highest that it shows."""
+    """The picture of orders with one table, and of their curves. A scale is the lowest price and the highest that it shows. Raises ValueError, in words,
+    where there is nothing that can be drawn."""
     shown = content(orders, curves)
     low, high = scale or heights(shown)
     if not (low < high and math.isfinite((high - low) * 4)):
-        raise Stop(2, f"a picture's scale goes from a lower price to a higher one, and this goes from {plain(low)} to {plain(high)}")
+        raise ValueError(f"a picture's scale goes from a lower price to a higher one, and this goes from {plain(low)} to {plain(high)}")
     head, below = heading(shown, low, high)
     marks = numbers(low, high, 6)
     begin = max(float(LEFT), max(width(label, FONT) for _, label in marks) + EDGE + 2)
