@@ -48,7 +48,7 @@ def decoded(data: bytes) -> str:
 
 def split_rows(text: str, separator: str) -> List[Row]:
     """The rows that are not empty, with their lines; empty cells at a row's end are dropped."""
-    reader = csv.reader(io.StringIO(text, newline=""), delimiter=separator, skipinitialspace=True)
+    reader = csv.reader(io.StringIO(text, newline=""), delimiter=separator, skipinitialspace=True, strict=True)
     rows: List[Row] = []
     line = 1
     try:
@@ -93,17 +93,21 @@ def table_rows(rows: List[Row]) -> Tuple[List[str], List[Row]]:
 def parted(text: str) -> Tuple[str, List[str], List[Row]]:
     """The separator, the heading and the table's rows. It is the sign that parts the most rows of the table, and among equals the first."""
     best: Tuple[int, str, List[str], List[Row]] = (0, "", [], [])
+    fault = Located(1, "the file has no row of a table")
     for separator in SEPARATORS:
-        heading, rows = table_rows(split_rows(text, separator))
+        try:
+            heading, rows = table_rows(split_rows(text, separator))
+        except Located as broken:
+            fault = broken
+            continue
         count = sum(len(cells) > 1 for _, cells in rows)
         if count > best[0]:
             best = (count, separator, heading, rows)
-    if best[0]:
-        return best[1:]
-    _, rows = table_rows(split_rows(text, ","))
-    if rows:
-        raise Located(rows[0][0], f"{quoted(rows[0][1][0])} stands alone in its row: a row is a period and its price, START, END and a price, or a knot and its average")
-    raise Located(1, "the file has no row of a table")
+        elif rows and not best[0]:
+            fault = Located(rows[0][0], f"{quoted(rows[0][1][0])} stands alone in its row: a row is a period and its price, START, END and a price, or a knot and its average")
+    if not best[0]:
+        raise fault
+    return best[1:]
 
 
 def chosen(heading: List[str], rows: List[Row]) -> List[Row]:

@@ -107,8 +107,10 @@ def check(answer: Answer) -> List[str]:
     lines = [f"{len(lost)} of {of(count, 'average')} not kept:"]
     order = answer.order
     for one in lost:
-        held = f"holds {short(one.held)}" if math.isfinite(one.held) else "has no finite total"
-        lines.append(f"  {period(order, one.period)} traded at {short(one.traded)} and {held} (line {order.average_lines[one.period]})")
+        # As many digits as it takes to see the difference.
+        form = short if short(one.traded) != short(one.held) else plain
+        held = f"holds {form(one.held)}" if math.isfinite(one.held) else "has no finite total"
+        lines.append(f"  {period(order, one.period)} traded at {form(one.traded)} and {held} (line {order.average_lines[one.period]})")
     if any(math.isfinite(one.held) for one in lost):
         lines.append("  The rows around the ends of such a period carry the difference; docs/SHAPES.md says how to keep away from this.")
     return lines
