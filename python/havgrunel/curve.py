@@ -9,7 +9,7 @@ import sys
 from array import array
 from dataclasses import dataclass, field
 from itertools import islice
-from typing import Any, Callable, Iterable, NamedTuple, Optional, Tuple
+from typing import Any, Callable, Iterable, NamedTuple, Optional, Tuple, Type
 
 from . import _numbers
 from ._library import MOST_POINTS, SLOTS, load
@@ -20,7 +20,12 @@ from .section import Section
 
 def sqrt(a: float) -> float:
     """The square root, correctly rounded. Below zero there is none, and a NaN comes back."""
-    return load().havgrunel_sqrt(_numbers.one(a, "a"))
+    return float(load().havgrunel_sqrt(_numbers.one(a, "a")))
+
+
+def _default(setting: str) -> Any:
+    """A field of Method whose default is the library's own."""
+    return field(default_factory=lambda: getattr(load(), f"havgrunel_default_{setting}")())
 
 
 @dataclass(frozen=True)
@@ -32,9 +37,9 @@ class Method:
     positivity   -- whether prices are held above zero; docs/SHAPES.md says where that fails
     """
 
-    quadraticity: float = field(default_factory=lambda: load().havgrunel_default_quadraticity())
-    monotonicity: float = field(default_factory=lambda: load().havgrunel_default_monotonicity())
-    positivity: bool = field(default_factory=lambda: load().havgrunel_default_positivity())
+    quadraticity: float = _default("quadraticity")
+    monotonicity: float = _default("monotonicity")
+    positivity: bool = _default("positivity")
 
     def __post_init__(self) -> None:
         object.__setattr__(self, "quadraticity", _numbers.one(self.quadraticity, "the quadraticity"))
@@ -70,7 +75,7 @@ def _lent(own: "array[Any]") -> Tuple[Any, int]:
     """A pointer to an array's entries, and their count."""
     if not own:
         return None, 0
-    entry = ctypes.c_double if own.typecode == "d" else ctypes.c_uint16
+    entry: Any = ctypes.c_double if own.typecode == "d" else ctypes.c_uint16
     return ctypes.pointer(entry.from_buffer(own)), len(own)
 
 
@@ -328,7 +333,7 @@ class Curve:
         return _again, (type(self), *parts)
 
 
-def _again(cls: type, *parts: Any) -> Curve:
+def _again(cls: Type[Curve], *parts: Any) -> Curve:
     """A curve from its parts, for pickle."""
     *buffers, tail, method, hold, extrapolate = parts
     curve = cls.__new__(cls)
