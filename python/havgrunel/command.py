@@ -1,42 +1,52 @@
-"""Answers a strip of traded averages: day by day, hour by hour or at points, as a table, a CSV file or a picture.
+"""Answers a strip of traded averages: day by day, hour by hour or at points, as
+a table, a CSV file or a picture.
 
-An order is a short text. Settings come first, then the table, then what is asked:
+An order is a short text. Settings come first, then the table, then what is
+asked:
 
-    title: Gas, winter 2026/27       # for the table and the picture; may be left out, as every setting may
-    price: EUR/MWh                   # the unit of a price
-    time: days                       # what a knot counts, where knots are numbers; dates count days, timestamps hours
-    quadraticity: 0.3                # from 0 to 1
-    monotonicity: 0.7                # from 0 to 1
-    positivity: on                   # on or off
-    hold last period: off            # on or off: the last period stays flat at its average
-    extrapolation: off               # on or off: points outside the knots are answered
+    title: Gas, winter 2026/27   # every setting may be left out
+    price: EUR/MWh               # the unit of a price
+    time: days                   # what a knot counts, where it is a number
+    quadraticity: 0.3            # from 0 to 1
+    monotonicity: 0.7            # from 0 to 1
+    positivity: on               # on or off
+    hold last period: off        # on: the last period is flat at its average
+    extrapolation: off           # on: points outside the knots are answered
 
-    2026-10      29.40               # a period by its name, and the price that it traded at
-    Nov-26       31.85
-    2026-12-01 2027-01-01 33.60      # START END PRICE: END is where the next period starts
-    Q1-27        32.50
+    2026-10  29.40               # a period by its name, and what it traded at
+    Nov-26   31.85
+    2026-12-01 2027-01-01 33.60  # or START END PRICE
+    Q1-27    32.50
 
-    daily                            # what each day averages; also: hourly, every 0.25
-    at 2026-10-15 2026-11-15         # the price at points, as many lines as you like
+    daily                        # also: hourly, every 0.25
+    at 2026-10-15 2026-11-15     # points, as many lines as you like
 
-The numbers above are the defaults of the library. Names of periods are 2026-10, Oct-26, Oct 2026, 2026-Q4, Q4-26, winter 2026, Win-26
-(October to March), summer 2027, Sum-27 (April to September), 2027, Cal-27. Periods must adjoin.
+The values above are the defaults of the library. Periods are named 2026-10,
+Oct-26, Oct 2026, 2026-Q4, Q4-26, winter 2026, Win-26 (October to March),
+summer 2027, Sum-27 (April to September), 2027 or Cal-27. They must adjoin, and
+END is where the next one starts: the day after the last day.
 
-The other form of a table has a knot to a line, with the average of the period that ends there. The first knot stands alone:
+A table may also have a knot to a line, with the average of the period that
+ends there. The first knot stands alone:
 
     2026-10-01
     2026-11-01  29.40
     2026-12-01  31.85
 
-A knot is a number, a day (2026-10-01) or a timestamp (2026-10-01 14:00), which has no zone: clock changes are not handled, and a day has 24 hours.
-A first knot with an average is an error, unless 'first average: not read' says that it stands for nothing. The case of words does not matter. From #
-on, at the start of a line or after a space, is a comment.
+A knot is a number, a day (2026-10-01) or a timestamp (2026-10-01 14:00). With
+timestamps, knots count hours; with days alone, days. A timestamp has no zone:
+clock changes are not handled, and every day has 24 hours. An average on the
+first knot is an error, unless 'first average: not read' says that it stands
+for nothing. The case of words does not matter. From # on, at the start of a
+line or after a space, is a comment.
 
-For each day or hour the table has the average over it, the price at its start and the running total at its end. Under it stands what became of the
-averages: all of them kept, or which were not.
+'daily' tells of each day the average over it, the price at its start and the
+running total at its end; 'at' the price at a point and the running total up to
+it. Under a table stands whether each period kept its average.
 
-A file whose name ends in .csv or .tsv is a table alone: rows of (period, price), (start, end, price) or (knot, average). Its separator, its decimal sign
-and its heading are found out. It asks 'daily' where --ask asks nothing else.
+A file whose name ends in .csv or .tsv is a table alone, in rows of (period,
+price), (start, end, price) or (knot, average). Its separator, its decimal sign
+and the rows above it are found out. It asks 'daily' where --ask asks nothing.
 """
 
 import argparse
@@ -68,10 +78,18 @@ exit status:
 MOST_CURVES = 4
 
 
+class Shown(argparse.Action):
+    """An option that prints a text and ends the command."""
+
+    def __call__(self, parser: argparse.ArgumentParser, namespace: object, values: object, option_string: Optional[str] = None) -> None:
+        write("-", (self.const or parser.format_help()).encode())
+        raise Stop(0)
+
+
 def parser_of(prog: str) -> argparse.ArgumentParser:
     about, _, text = (__doc__ or "").partition("\n\n")
     parser = argparse.ArgumentParser(
-        prog=prog, description=about, epilog=f"{text}\n{STATUSES}", formatter_class=argparse.RawDescriptionHelpFormatter, allow_abbrev=False
+        prog=prog, description=about, epilog=f"{text}\n{STATUSES}", formatter_class=argparse.RawDescriptionHelpFormatter, allow_abbrev=False, add_help=False
     )
     parser.add_argument("files", metavar="FILE", nargs="+", help="an order, or a table as .csv or .tsv; '-' is an order on standard input. Several are for --plot: one table under several settings")
     instead = parser.add_mutually_exclusive_group()
@@ -80,10 +98,11 @@ def parser_of(prog: str) -> argparse.ArgumentParser:
     instead.add_argument("--tsv", metavar="FILE", help="the same with tabs")
     instead.add_argument("--bytes", metavar="FILE", help="write the order's bytes, as target/bin/curveorder takes them, into this file instead")
     instead.add_argument("--exact", action="store_true", help="print each number so that it reads back as the same float")
-    parser.add_argument("--set", metavar="SETTING", action="append", default=[], help="a setting more, as 'quadraticity: 0'; may be given several times")
-    parser.add_argument("--ask", metavar="WORDS", action="append", default=[], help="what is asked besides, as 'hourly' or 'at 2026-10-15'; may be given several times")
+    parser.add_argument("--set", metavar="SETTING", action="append", default=[], help="a setting besides those of the text, as 'quadraticity: 0'; may be given several times")
+    parser.add_argument("--ask", metavar="WORDS", action="append", default=[], help="what is asked besides what the text asks, as 'hourly' or 'at 2026-10-15'; may be given several times")
     parser.add_argument("--scale", metavar="LOW:HIGH", help="the prices that a picture's axis spans, so that two pictures can be compared")
-    parser.add_argument("--version", action="version", version=f"havgrunel {__version__}")
+    parser.add_argument("--version", action=Shown, nargs=0, const=f"havgrunel {__version__}\n", help="print the version")
+    parser.add_argument("-h", "--help", action=Shown, nargs=0, help="print this")
     return parser
 
 
@@ -123,7 +142,7 @@ def drawn(answers: Sequence[Answer], scale: Optional[tuple]) -> bytes:
     try:
         text = picture.draw([one.order for one in answers], [one.curve for one in answers], scale)
     except ValueError as fault:
-        raise Stop(1, f"the picture cannot be drawn: {fault}") from None
+        raise Stop(3, str(fault)) from None
     return text.encode("utf-8", "surrogateescape")
 
 
@@ -149,6 +168,8 @@ def run(asked: argparse.Namespace) -> int:
     option, target = next(((f"--{name}", path) for name, path in vars(asked).items() if name in ("plot", "csv", "tsv", "bytes") and path is not None), (None, "-"))
     if len(asked.files) > 1 and option != "--plot":
         raise Stop(2, "several files are for --plot")
+    if asked.scale is not None and option != "--plot":
+        raise Stop(2, "--scale is for --plot")
     scale = scale_of(asked.scale)
     orders = [read_one(path, asked.set, asked.ask) for path in asked.files]
     if option == "--plot":

@@ -1,0 +1,268 @@
+"""The command: its statuses, the files that it writes, and that it never ends in a traceback."""
+
+import os
+import platform
+import shutil
+import signal
+import struct
+import subprocess
+import sys
+import tempfile
+import time
+import unittest
+
+from havgrunel.command import STATUSES
+from runs import EXAMPLES, HOME, ORDER, example, run, start, table_rows
+
+WINTER = example("winter-gas.txt")
+SHORT = "0\n1 2\nat 0\n"
+
+
+class InAFolder(unittest.TestCase):
+    def setUp(self):
+        folder = tempfile.TemporaryDirectory()
+        self.addCleanup(folder.cleanup)
+        self.folder = folder.name
+
+    def path(self, name):
+        return os.path.join(self.folder, name)
+
+    def written(self, name, data):
+        with open(self.path(name), "wb") as file:
+            file.write(data if isinstance(data, bytes) else data.encode())
+        return self.path(name)
+
+    def read(self, name):
+        with open(self.path(name), "rb") as file:
+            return file.read()
+
+
+class Statuses(InAFolder):
+    def test_0_answered(self):
+        ran = run("-", text=SHORT)
+        self.assertEqual((ran.status, ran.told), (0, ""))
+        self.assertEqual(ran.out.splitlines()[-1], "the average is kept")
+
+    def test_1_refused(self):
+        self.assertEqual(run("-", text="1\n0 2\nat 0\n").status, 1)
+
+    def test_2_the_text_or_the_command_line(self):
+        self.assertEqual(run("-", text="0\n1 x\n").status, 2)
+        for words in ([], ["--plto", "x", WINTER], ["--exact", "--csv", "-", WINTER], [WINTER, WINTER], ["--csv"], ["--scale", "1:2", WINTER], ["--plot", "-", "--scale", "2:1", WINTER], ["--plot", "-", "--scale", "x", WINTER]):
+            with self.subTest(words=words):
+                ran = run(*words)
+                self.assertEqual((ran.status, ran.out, "order: " in ran.told), (2, "", True))
+
+    def test_3_what_could_not_be_read_or_written(self):
+        self.assertEqual(run(self.path("none.txt")), (3, "", f"order: {self.path('none.txt')} cannot be read: No such file or directory\n"))
+        self.assertEqual(run(self.folder).status, 3)
+        there = self.path("no/out.csv")
+        self.assertEqual(run("--csv", there, WINTER), (3, "", f"order: {there} cannot be written: No such file or directory\n"))
+
+    def test_4_a_lost_average_or_a_price_that_is_not_finite(self):
+        self.assertEqual(run(example("falling-month-splits.txt")).status, 4)
+        self.assertEqual(run(example("zero-hour.txt")).status, 4)
+        for option in "--csv", "--tsv", "--plot":
+            ran = run(option, "-", example("falling-month-splits.txt"))
+            self.assertEqual(ran.status, 4)
+            self.assertIn("falling-month-splits.txt: 1 to 2 traded at 3.0000 and holds 2.3333 (line 10)\n", ran.told)
+
+    def test_the_help_has_them_all(self):
+        ran = run("--help")
+        self.assertEqual((ran.status, ran.told), (0, ""))
+        self.assertIn(STATUSES, ran.out)
+        for status in range(5):
+            self.assertIn(f"\n  {status}    ", ran.out)
+        self.assertIn("clock changes are not handled", ran.out)
+        self.assertEqual([line for line in ran.out.splitlines() if len(line) > 80], [])
+
+    def test_version(self):
+        self.assertRegex(run("--version").out, r"^havgrunel [0-9.]+\n$")
+
+
+class Tables(InAFolder):
+    def test_the_heads_say_which_is_which(self):
+        lines = run(WINTER).out.splitlines()
+        self.assertEqual(lines[3], "day          average   price at its start   running total at its end")
+
+    def test_two_tables(self):
+        out = run("-", text="2026-10 3\n2026-11 4\nat 2026-10-15\ndaily\n").out
+        self.assertEqual(sum(line.startswith("---") for line in out.splitlines()), 2)
+
+    def test_every_example(self):
+        lose = {"falling-month-splits.txt", "summer-gas-splits.txt", "power-negative-positivity.txt", "zero-hour.txt", "equal-months.txt"}
+        for name in sorted(os.listdir(EXAMPLES)):
+            if name.endswith(".txt"):
+                with self.subTest(file=name):
+                    ran = run(example(name))
+                    self.assertEqual((ran.status, bool(table_rows(ran.out))), (4 if name in lose else 0, True))
+
+    def test_exact_numbers_read_back(self):
+        rows = table_rows(run("--exact", example("worked-order.txt")).out)
+        self.assertEqual(rows, [["1", "2", "2"], ["2", "2", "4"]])
+
+    def test_hours_are_told_with_their_time(self):
+        out = run(example("desk", "week-of-power.txt")).out
+        self.assertEqual((len(table_rows(out)), table_rows(out)[1][0]), (168, "2026-06-08 01:00"))
+
+    def test_the_same_command_as_a_module(self):
+        done = subprocess.run([sys.executable, "-m", "havgrunel", WINTER], cwd=os.path.join(HOME, "python"), stdout=subprocess.PIPE, check=True, timeout=60)
+        self.assertEqual(done.stdout.decode(), run(WINTER).out)
+
+    def test_a_file_of_any_name(self):
+        for name in ("a b.txt", "ü.txt", "STRIP.CSV"):
+            self.assertEqual(run(self.written(name, "2026-10,3\n" if name.endswith("CSV") else SHORT)).status, 0)
+
+
+class Files(InAFolder):
+    def test_over_one_of_its_own_kind(self):
+        for option, name in ("--csv", "a.csv"), ("--tsv", "a.tsv"), ("--plot", "a.svg"), ("--bytes", "a.order"):
+            with self.subTest(option=option):
+                order = self.written("order.txt", SHORT)
+                self.assertEqual(run(option, self.path(name), order), (0, "", ""))
+                first = self.read(name)
+                self.assertEqual(run(option, self.path(name), order), (0, "", ""))
+                self.assertEqual(self.read(name), first)
+
+    def test_over_nothing_else(self):
+        order = self.written("order.txt", SHORT)
+        kept = self.written("kept", "month,price\n2026-10,3\n")
+        for option in "--csv", "--tsv", "--plot", "--bytes":
+            with self.subTest(option=option):
+                ran = run(option, kept, order)
+                self.assertEqual((ran.status, ran.out), (3, ""))
+                self.assertRegex(ran.told, rf"^order: .*kept is there and is not .*; {option} writes a new file, or over one of that kind\n$")
+        self.assertEqual(self.read("kept"), b"month,price\n2026-10,3\n")
+        self.assertEqual(run("--csv", self.written("empty", b""), order).status, 0)
+        self.assertEqual(run("--csv", "/dev/null", order).status, 0)
+
+    def test_never_over_an_order_that_is_read(self):
+        run("--csv", self.path("strip.csv"), self.written("order.txt", "2026-10 3\n2026-11 4\ndaily\n"))
+        before = self.read("strip.csv")
+        os.symlink(self.path("strip.csv"), self.path("link.csv"))
+        for name in "strip.csv", "link.csv":
+            ran = run("--csv", self.path(name), self.path("strip.csv"))
+            self.assertEqual((ran.status, ran.told), (3, f"order: {self.path(name)} is an order that is read, and --csv does not write over it\n"))
+        self.assertEqual(self.read("strip.csv"), before)
+
+    def test_nothing_is_written_of_an_order_that_fails(self):
+        for text in ("0\n1 x\nat 0\n", "1\n0 2\nat 0\n"):
+            run("--csv", self.path("out.csv"), self.written("order.txt", text))
+            self.assertFalse(os.path.exists(self.path("out.csv")))
+
+    def test_one_table_to_a_file(self):
+        ran = run("--csv", "-", "-", text="2026-10 3\n2026-11 4\nat 2026-10-15\ndaily\n")
+        self.assertEqual(ran, (2, "", "standard input asks for at and daily, and --csv writes one table: ask for one of them\n"))
+
+    def test_bytes(self):
+        with open(os.path.join(HOME, "crates", "curveorder", "stdin"), "rb") as file:
+            worked = file.read()
+        self.assertEqual(run("--bytes", self.path("worked.order"), example("worked-order.txt")), (0, "", ""))
+        self.assertEqual(self.read("worked.order"), worked)
+        order = self.written("order.txt", "2028-02-01\n2028-03-01 3\nat 2028-02-29\n")
+        self.assertEqual(run("--bytes", self.path("worked.order"), order).status, 0)
+        self.assertEqual(self.read("worked.order")[-8:], struct.pack(">d", 28.0))
+        self.assertEqual(run("--bytes", "-", "-", text="2026-10 3\n2026-11 4\n2026-12 3\ndaily\n").told, "standard input:4: an order's bytes ask for at most 64 points, and this asks for 93\n")
+        self.assertEqual(run("--bytes", "-", "-", text="".join(f"{k} {k + 1} 1\n" for k in range(200)) + "at 0\n").told, "standard input:200: an order's bytes have at most 200 knots\n")
+
+    def test_pictures(self):
+        self.assertEqual(run("--plot", self.path("a.svg"), "--scale", "0:50", WINTER), (0, "", ""))
+        self.assertIn(b"<svg", self.read("a.svg"))
+        ran = run("--plot", self.path("b.svg"), WINTER, example("summer-gas.txt"))
+        self.assertEqual((ran.status, "has another table than" in ran.told, os.path.exists(self.path("b.svg"))), (2, True, False))
+        self.assertEqual(run("--plot", "-", *[WINTER] * 5).status, 2)
+        ran = run("--plot", "-", "-", text="0\n1 1e308\n2 -1e308\nat 0\n")
+        self.assertIn(ran.status, (3, 4))
+
+
+class NoTraceback(InAFolder):
+    """Each of these once ended in a traceback, or may."""
+
+    def ends(self, done, status, said):
+        told = done.stderr.decode()
+        self.assertNotIn("Traceback", told)
+        self.assertEqual((done.returncode, told), (status, said))
+
+    def shell(self, line, more=None):
+        return subprocess.run(["sh", "-c", line, sys.executable, ORDER, WINTER], stdin=subprocess.DEVNULL, stdout=subprocess.PIPE, stderr=subprocess.PIPE, env={**os.environ, **(more or {})}, timeout=60)
+
+    @unittest.skipUnless(os.path.exists("/dev/full"), "there is no /dev/full")
+    def test_a_full_disk(self):
+        self.ends(self.shell('"$0" "$1" "$2" >/dev/full'), 3, "order: standard output cannot be written: No space left on device\n")
+        self.ends(self.shell('"$0" "$1" --csv /dev/full "$2"'), 3, "order: /dev/full cannot be written: No space left on device\n")
+        self.assertEqual(self.shell('"$0" "$1" "$2" 2>/dev/full >/dev/full').returncode, 3)
+        self.ends(self.shell('"$0" "$1" --help >/dev/full'), 3, "order: standard output cannot be written: No space left on device\n")
+
+    def test_closed_standard_output(self):
+        self.ends(self.shell('"$0" "$1" "$2" >&-'), 3, "order: standard output is closed\n")
+
+    def test_closed_standard_input(self):
+        self.ends(self.shell('"$0" "$1" - <&-'), 3, "order: standard input is closed, and '-' asks to read it\n")
+        self.ends(self.shell('"$0" "$1" "$2" <&-'), 0, "")
+
+    def test_closed_standard_error(self):
+        done = self.shell('"$0" "$1" none.txt 2>&-')
+        self.assertEqual((done.returncode, done.stdout), (3, b""))
+
+    def test_a_reader_that_has_seen_enough(self):
+        self.ends(self.shell('"$0" "$1" "$2" | head -n 1'), 0, "")
+
+    def test_ctrl_c(self):
+        process = subprocess.Popen([sys.executable, ORDER, "-"], stdin=subprocess.PIPE, stdout=subprocess.PIPE, stderr=subprocess.PIPE)
+        time.sleep(1.0)
+        process.send_signal(signal.SIGINT)
+        out, told = process.communicate(timeout=60)
+        self.assertEqual((process.returncode, out, told), (130, b"", b"order: stopped by Ctrl-C\n"))
+
+    def copy(self):
+        """The command and the package in a folder of their own, with no library."""
+        shutil.copy(ORDER, self.path("order"))
+        shutil.copytree(os.path.join(HOME, "python", "havgrunel"), self.path("python/havgrunel"), ignore=shutil.ignore_patterns("__pycache__", "*.so"))
+        os.mkdir(self.path("tools"))
+        shutil.copy(os.path.join(HOME, "tools", "archive"), self.path("tools/archive"))
+        os.mkdir(self.path("empty"))
+        kept = {name: value for name, value in os.environ.items() if name != "HAVGRUNEL_LIBRARY"}
+        return {**kept, "PATH": self.path("empty")}
+
+    def test_no_kit_and_no_library(self):
+        done = subprocess.run([sys.executable, self.path("order"), WINTER], env=self.copy(), stdout=subprocess.PIPE, stderr=subprocess.PIPE, timeout=60)
+        told = done.stderr.decode()
+        self.assertEqual((done.returncode, done.stdout, len(told.splitlines())), (3, b"", 2), told)
+        self.assertIn("the Rattle kit", told)
+        self.assertIn("HAVGRUNEL_LIBRARY", told)
+        self.assertIn("README.md", told)
+
+    def test_no_kit_but_a_library(self):
+        from havgrunel import _library
+
+        built = _library.load()._name
+        done = subprocess.run([sys.executable, self.path("order"), WINTER], env={**self.copy(), "HAVGRUNEL_LIBRARY": built}, stdout=subprocess.PIPE, stderr=subprocess.PIPE, timeout=60)
+        self.assertEqual((done.returncode, done.stdout.decode(), done.stderr), (0, run(WINTER).out, b""))
+
+    def test_a_library_that_is_none(self):
+        for path, said in ((self.path("none.so"), "cannot be loaded"), (self.written("bad.so", "x"), "cannot be loaded")):
+            done = start([WINTER], {"HAVGRUNEL_LIBRARY": path}, stdout=subprocess.PIPE, stderr=subprocess.PIPE)
+            self.assertEqual((done.returncode, done.stdout), (3, b""))
+            self.assertIn(said, done.stderr.decode())
+            self.assertNotIn("Traceback", done.stderr.decode())
+
+    def test_another_system(self):
+        """A stand-in for another system: what Python says of the system is changed before the command starts."""
+        env = self.copy()
+        lines = f"import sys, runpy\nsys.platform = 'darwin'\nsys.argv = [{self.path('order')!r}, {WINTER!r}]\nrunpy.run_path(sys.argv[0], run_name='__main__')\n"
+        done = subprocess.run([sys.executable, "-c", lines], env=env, stdout=subprocess.PIPE, stderr=subprocess.PIPE, timeout=60)
+        told = done.stderr.decode()
+        self.assertEqual((done.returncode, done.stdout), (3, b""), told)
+        self.assertIn(f"this system is {platform.system()}", told)
+
+    def test_bytes_that_are_no_text(self):
+        for data in (b"\x00\x01\x02\xff", b"\xff\xfe0\x00", bytes(range(256)) * 40, b"0" * 100000, b":\n" * 1000, "title: \ud800".encode("utf-8", "surrogatepass")):
+            for name in ("x.txt", "x.csv"):
+                with self.subTest(data=data[:10], name=name):
+                    ran = run(self.written(name, data))
+                    self.assertIn(ran.status, (1, 2))
+                    self.assertTrue(all(len(line) < 400 for line in ran.told.splitlines()), ran.told[:500])
+
+
+if __name__ == "__main__":
+    unittest.main()
