@@ -13,9 +13,9 @@ from typing import Any, Callable, Iterable, Optional, SupportsFloat
 
 Many = Iterable[SupportsFloat]
 
-# Formats of the buffer protocol that are the machine's own double.
-_DOUBLES = ("d", "@d", "=d", "<d" if sys.byteorder == "little" else ">d")
-# Formats of other numbers, in the order of the machine's own bytes.
+# Formats of the buffer protocol: the machine's own double, and how else it may be written; other numbers.
+_DOUBLES = ("d", "@d")
+_ALSO_DOUBLES = ("=d", "<d" if sys.byteorder == "little" else ">d")
 _NUMBERS = tuple("bBhHiIlLqQnNfe?")
 # Text and things without an order are iterable too, and are not meant.
 _NOT_MANY = (str, bytes, bytearray, dict, set, frozenset)
@@ -111,6 +111,13 @@ def one(x: Any, what: str) -> float:
         raise OverflowError(f"{what} is too large for a float") from None
 
 
+def switch(x: Any, what: str) -> bool:
+    """True or False. A word is neither, since every word would be true."""
+    if x is None or isinstance(x, (str, bytes)):
+        raise TypeError(f"{what} is {_quoted(x)}, and True or False is meant")
+    return bool(x)
+
+
 def whole(x: Any, what: str) -> int:
     """A whole number."""
     try:
@@ -164,8 +171,9 @@ def _of_numpy(xs: Any, what: str, kind: Kind) -> Lent:
     if hasattr(xs, "filled"):
         # What is masked is no number. The library refuses it by its own refusal.
         xs = xs.astype("float64").filled(math.nan)
-    if xs.dtype != "float64" or not xs.dtype.isnative or not xs.flags.c_contiguous or not xs.flags.writeable:
-        # ctypes points into writable buffers alone, so one that may only be read is copied as well.
+    if xs.dtype != "float64" or not xs.flags.carray:
+        # A pointer is to doubles in a row, each at its place in memory. ctypes points into writable buffers alone, so one that may only be read is
+        # copied as well.
         xs = sys.modules["numpy"].array(xs, dtype="float64", order="C", subok=False)
     return Lent(xs, len(xs), kind)
 
@@ -173,15 +181,19 @@ def _of_numpy(xs: Any, what: str, kind: Kind) -> Lent:
 def _of_buffer(xs: Any, view: memoryview, what: str) -> Lent:
     if view.ndim != 1:
         raise TypeError(f"{what} has {view.ndim} dimensions, and a sequence of numbers has one")
-    if view.format not in _DOUBLES:
-        if view.format not in _NUMBERS:
-            raise TypeError(f"{what} is of the type {type(xs).__name__} and has the format {view.format!r}, which is none of numbers")
+    if view.format in _NUMBERS:
         return _copied(xs, what, ARRAYS)
-    if view.readonly or not view.c_contiguous:
-        own = array("d")
-        own.frombytes(view.tobytes())
-        return Lent(own, len(own), ARRAYS)
-    return Lent(xs, len(view), ARRAYS)
+    if view.format not in _DOUBLES + _ALSO_DOUBLES:
+        raise TypeError(f"{what} is of the type {type(xs).__name__} and has the format {view.format!r}, which is none of numbers")
+    if view.format in _DOUBLES and view.c_contiguous and not view.readonly and _is_aligned(view):
+        return Lent(xs, len(view), ARRAYS)
+    own = array("d")
+    own.frombytes(view.tobytes())
+    return Lent(own, len(own), ARRAYS)
+
+
+def _is_aligned(view: memoryview) -> bool:
+    return len(view) == 0 or ctypes.addressof(ctypes.c_double.from_buffer(view)) % ctypes.alignment(ctypes.c_double) == 0
 
 
 def _iterated(xs: Any, what: str) -> Lent:

@@ -25,7 +25,11 @@ def sqrt(a: float) -> float:
 
 def _default(setting: str) -> Any:
     """A field of Method whose default is the library's own."""
-    return field(default_factory=lambda: getattr(load(), f"havgrunel_default_{setting}")())
+
+    def asked() -> Any:
+        return getattr(load(), f"havgrunel_default_{setting}")()
+
+    return field(default_factory=asked)
 
 
 @dataclass(frozen=True)
@@ -44,7 +48,7 @@ class Method:
     def __post_init__(self) -> None:
         object.__setattr__(self, "quadraticity", _numbers.one(self.quadraticity, "the quadraticity"))
         object.__setattr__(self, "monotonicity", _numbers.one(self.monotonicity, "the monotonicity"))
-        object.__setattr__(self, "positivity", bool(self.positivity))
+        object.__setattr__(self, "positivity", _numbers.switch(self.positivity, "the positivity"))
 
 
 class Tail(NamedTuple):
@@ -278,8 +282,8 @@ class Curve:
     def averages(self, edges: Many) -> Any:
         """What the curve averages from each edge to the next: one answer less than there are edges, which must rise.
 
-        An answer is (total at the right edge - total at the left edge) / (right - left), and each of the three steps is rounded once. It comes as the kind
-        of sequence that the edges are; a pandas Series has the index of the left edges.
+        An answer is (total at the right edge - total at the left edge) / (right - left), and each of the three steps is rounded once. It comes as the
+        kind of sequence that the edges are; a pandas Series has the index of the left edges.
         """
         lent = _numbers.many(edges, "edges")
         if lent.count == 0:
@@ -327,17 +331,14 @@ class Curve:
         )
 
     def __reduce__(self) -> Tuple[Any, ...]:
-        parts = (
-            self._knots, self._traded, self._nodes, self._tags, self._slots, tuple(self._tail), self._method, self._hold, self._extrapolate
-        )
-        return _again, (type(self), *parts)
+        buffers = (self._knots, self._traded, self._nodes, self._tags, self._slots)
+        return _again, (type(self), *buffers, self._tail, self._method, self._hold, self._extrapolate)
 
 
 def _again(cls: Type[Curve], *parts: Any) -> Curve:
     """A curve from its parts, for pickle."""
-    *buffers, tail, method, hold, extrapolate = parts
     curve = cls.__new__(cls)
-    curve._set(*buffers, Tail(*tail), method, hold, extrapolate)
+    curve._set(*parts)
     return curve
 
 

@@ -102,6 +102,8 @@ class Building(Refusing):
             Curve([0, 1], [0, 1], (0.3, 0.7, True))
         with self.assertRaisesRegex(TypeError, "quadraticity"):
             Method("0.3")
+        with self.assertRaisesRegex(TypeError, "the positivity is 'off', and True or False is meant"):
+            Method(positivity="off")
 
 
 class Asking(Refusing):

@@ -1,5 +1,6 @@
 """What may be lent as numbers, what comes back, and what is told of the rest. numpy and pandas are tried where they are."""
 
+import ctypes
 import datetime
 import decimal
 import fractions
@@ -66,6 +67,14 @@ class ManyNumbers(unittest.TestCase):
         xs = array("d", [0, 1, 2])
         self.assertIs(_numbers.many(xs, "xs").buffer, xs)
 
+    def test_doubles_of_ctypes_and_out_of_place(self):
+        xs = (ctypes.c_double * 3)(0, 1, 2)
+        room = bytearray(b"?") + array("d", [0, 1, 2]).tobytes()
+        for form in (xs, memoryview(room)[1:].cast("d")):
+            self.assertEqual(CURVE.values(form), array("d", ANSWERS))
+            self.assertEqual(CURVE.averages(form), array("d", [1.0, 3.0]))
+            self.assertEqual(Curve(form, [0, 1, 3]).knots, array("d", KNOTS))
+
     def test_a_table_of_every_kind(self):
         for form in (tuple, iter, lambda xs: array("f", xs), lambda xs: memoryview(array("d", xs))):
             self.assertEqual(Curve(form(KNOTS), form(AVERAGES), CURVE.method).nodes.tolist(), ANSWERS)
@@ -110,7 +119,9 @@ class Numpy(unittest.TestCase):
         strided = numpy.array([0.0, 9.0, 1.0, 9.0, 2.0, 9.0])[::2]
         frozen = numpy.array([0.0, 1.0, 2.0])
         frozen.flags.writeable = False
-        for xs in (strided, frozen, numpy.array([2.0, 1.0, 0.0])[::-1]):
+        packed = numpy.zeros(3, dtype=[("a", "u1"), ("b", "f8")])
+        packed["b"] = [0, 1, 2]
+        for xs in (strided, frozen, numpy.array([2.0, 1.0, 0.0])[::-1], packed["b"]):
             self.assertEqual(CURVE.values(xs).tolist(), ANSWERS)
 
     def test_a_masked_entry_is_no_number(self):
