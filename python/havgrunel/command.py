@@ -67,11 +67,11 @@ from .text import Order, Rows, read_order
 
 STATUSES = """\
 exit status:
-  0    answered
-  1    refused, by the number of a refusal
-  2    the text or the command line is wrong
-  3    something could not be read, written or made
-  4    answered, with a period that lost its average or a price that is not finite
+  0  answered
+  1  refused, by the number of a refusal
+  2  the text or the command line is wrong
+  3  something could not be read, written or made
+  4  answered, with a period that lost its average or a price that is not finite
 """
 
 # One picture shows so many curves.

@@ -72,7 +72,7 @@ class Statuses(InAFolder):
         self.assertEqual((ran.status, ran.told), (0, ""))
         self.assertIn(STATUSES, ran.out)
         for status in range(5):
-            self.assertIn(f"\n  {status}    ", ran.out)
+            self.assertIn(f"\n  {status}  ", ran.out)
         self.assertIn("clock changes are not handled", ran.out)
         self.assertEqual([line for line in ran.out.splitlines() if len(line) > 80], [])
 
