@@ -40,6 +40,8 @@ COLOURS: Dict[str, Tuple[str, str, str]] = {
     "curve4": ("stroke", "#dd55cc", "#7e3cff"),
     "fault": ("stroke", "#c1121f", "#ff6b6b"),
 }
+# What names begin with, so that a page that holds the picture has none of them.
+PREFIX = "havgrunel-"
 # Curves that lie over each other show through each other's gaps.
 DASHES = ("", "9 4", "3 4", "12 3 2 3")
 
@@ -47,12 +49,13 @@ DASHES = ("", "9 4", "3 4", "12 3 2 3")
 def painted(*roles: str) -> str:
     """The class and the attributes of something. The attributes hold where no style is understood, and are those of a light ground."""
     light = " ".join(f'{COLOURS[role][0]}="{COLOURS[role][1]}"' for role in roles)
-    return f'class="{" ".join(roles)}" {light}'
+    return f'class="{" ".join(f"{PREFIX}{role}" for role in roles)}" {light}'
 
 
 def style() -> str:
-    dark = "".join(f".{role}{{{attribute}:{colour}}}" for role, (attribute, _, colour) in COLOURS.items())
-    return f"<style>@media (prefers-color-scheme:dark){{{dark}}}</style>"
+    """The colours of a dark screen. Paper is light."""
+    dark = "".join(f".{PREFIX}{role}{{{attribute}:{colour}}}" for role, (attribute, _, colour) in COLOURS.items())
+    return f"<style>@media screen and (prefers-color-scheme:dark){{{dark}}}</style>"
 
 
 def line(k: int, wide: float = 2.5) -> str:
@@ -167,7 +170,8 @@ def heights(shown: Content) -> Scale:
     """The lowest price and the highest that a picture shows, with some air. What is carried on beyond the ends may double the height and double it again,
     and is cut off there: nothing holds it."""
     first, last = shown.first.knots[0], shown.first.knots[-1]
-    within, beyond = list(shown.first.averages[1:]), []
+    within: List[float] = list(shown.first.averages[1:])
+    beyond: List[float] = []
     for curve in shown.drawn:
         for x, price in (pair for stretch in curve.stretches for pair in stretch):
             if math.isfinite(price):
@@ -252,18 +256,18 @@ def draw(orders: Sequence[Order], curves: Sequence[Curve], scale: Optional[Scale
     begin = max(float(LEFT), max(width(label, FONT) for _, label in marks) + EDGE + 2)
     frame = Frame(shown.left, shown.right, low, high, begin, below + 14)
     foot = footing(shown, frame)
-    name = f"{zlib.crc32(repr((head, shown.first.knots, low, high)).encode()):08x}"
+    name = f"{PREFIX}{zlib.crc32(repr((head, shown.first.knots, low, high)).encode()):08x}"
     title = str(shown.first.settings["title"]) or os.path.basename(shown.first.name)
     out = [
         f'<svg xmlns="http://www.w3.org/2000/svg" viewBox="0 0 {WIDE} {at(foot[1])}" width="{WIDE}" height="{at(foot[1])}" role="img"'
-        f' aria-labelledby="title-{name} about-{name}" font-family="DejaVu Sans, Verdana, Arial, sans-serif" font-size="{FONT}" {painted("ink")}>',
-        f'<title id="title-{name}">{clean(title)}</title>',
-        f'<desc id="about-{name}">{clean(description(shown))}</desc>',
+        f' aria-labelledby="{name}-title {name}-about" font-family="DejaVu Sans, Verdana, Arial, sans-serif" font-size="{FONT}" {painted("ink")}>',
+        f'<title id="{name}-title">{clean(title)}</title>',
+        f'<desc id="{name}-about">{clean(description(shown))}</desc>',
         style(),
-        f'<clipPath id="plot-{name}"><rect x="{at(begin - 2)}" y="{at(frame.top - 2)}" width="{at(frame.end - begin + 4)}" height="{HIGH + 4}"/></clipPath>',
+        f'<clipPath id="{name}-plot"><rect x="{at(begin - 2)}" y="{at(frame.top - 2)}" width="{at(frame.end - begin + 4)}" height="{HIGH + 4}"/></clipPath>',
         f'<rect width="{WIDE}" height="{at(foot[1])}" {painted("ground")}/>',
         *head,
-        f'<g clip-path="url(#plot-{name})" fill="none">',
+        f'<g clip-path="url(#{name}-plot)" fill="none">',
         *ground(shown, frame, marks),
         f'<path d="M{at(begin)} {at(frame.top)}V{at(frame.foot)}H{at(frame.end)}" {painted("axis")}/>',
         steps(shown.first, frame),
@@ -286,7 +290,9 @@ def description(shown: Content) -> str:
     for curve, name in zip(shown.drawn, names(shown.orders)):
         prices = [price for stretch in curve.stretches for _, price in stretch if math.isfinite(price)]
         if prices:
-            told.append(f"The {name}{'' if name == 'curve' else ' curve'} runs from {short(min(prices))} to {short(max(prices))}.")
+            told.append(f"Line, {name}: from {short(min(prices))} to {short(max(prices))}.")
+    if shown.rows:
+        told.append(f"Bars: {shown.rows.name}.")
     return " ".join(told)
 
 
@@ -354,10 +360,11 @@ def curve_path(curve: Drawn, frame: Frame, k: int) -> str:
 
 def thinned(places: List[Optional[Tuple[float, float]]]) -> List[Optional[Tuple[float, float]]]:
     """A stretch without what nobody sees: one that is narrower than half a dot keeps its first, lowest, highest and last place."""
-    if None in places or places[-1][0] - places[0][0] >= 0.5:
+    finite = [place for place in places if place is not None]
+    if len(finite) < len(places) or finite[-1][0] - finite[0][0] >= 0.5:
         return places
-    order = sorted(range(len(places)), key=lambda k: places[k][1])
-    return [places[k] for k in sorted({0, order[0], order[-1], len(places) - 1})]
+    rising = sorted(range(len(finite)), key=lambda k: finite[k][1])
+    return [finite[k] for k in sorted({0, rising[0], rising[-1], len(finite) - 1})]
 
 
 def faults(shown: Content) -> List[float]:
@@ -378,7 +385,7 @@ def ring(x: float, y: float) -> str:
 def names(orders: Sequence[Order]) -> List[str]:
     """A curve among several goes by the settings in which they differ, or by its order's name."""
     if len(orders) == 1:
-        return ["curve"]
+        return ["price at each moment"]
     differ = [key for key in METHOD if len({order.settings[key] for order in orders}) > 1]
     found = [", ".join(told(key, order.settings[key]) for key in differ) for order in orders]
     if len(set(found)) < len(found):
@@ -429,7 +436,7 @@ def legend(found: List[Tuple[str, str]], y: float) -> Tuple[List[str], float]:
     x = float(EDGE)
     for mark, name in found:
         indent = 37 if mark else 0
-        texts = wrap(name, WIDE - 2 * EDGE - indent, FONT)
+        texts = wrap(name, WIDE - 2 * EDGE - indent, FONT) or [""]
         wide = indent + max(width(text, FONT) for text in texts)
         if x > EDGE and x + wide > WIDE - EDGE:
             x, y = float(EDGE), y + 22
@@ -447,7 +454,8 @@ def footing(shown: Content, frame: Frame) -> Tuple[List[str], float]:
         out.append(f'<path d="M{at(frame.across(x))} {at(frame.foot)}v5" {painted("axis")}/>')
         out.append(text_at(centre(frame, x, label), frame.foot + 21, label, ' text-anchor="middle"'))
     y = frame.foot + 24
-    for text in [] if shown.first.dates else wrap(str(shown.first.settings["time"]), WIDE - 2 * EDGE, FONT):
+    unit = "" if shown.first.dates else str(shown.first.settings["time"]) or shown.first.unit
+    for text in wrap(unit, WIDE - 2 * EDGE, FONT):
         y += 20
         out.append(text_at((frame.begin + frame.end) / 2, y, text, ' text-anchor="middle"'))
     return out, y + 16

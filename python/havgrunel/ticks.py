@@ -28,7 +28,7 @@ def numbers(low: float, high: float, most: int) -> List[Mark]:
         if span / step <= most:
             break
     first = (Decimal(low) / step).to_integral_value(ROUND_CEILING)
-    found = []
+    found: List[Decimal] = []
     while (first + len(found)) * step <= Decimal(high):
         found.append((first + len(found)) * step)
     return list(zip(map(float, found), _labels(found, step)))
@@ -47,7 +47,7 @@ def _labels(found: List[Decimal], step: Decimal) -> List[str]:
 
 
 def _written(found: List[Decimal], step: Decimal, power: int, sign: str) -> List[str]:
-    digits = max(0, -step.scaleb(-power).normalize().as_tuple().exponent)
+    digits = max(0, -int(step.scaleb(-power).normalize().as_tuple().exponent))
     texts = [f"{number.scaleb(-power):.{digits}f}{sign}" if number else "0" for number in found]
     return [text.replace("-", "−") for text in texts]
 
@@ -67,7 +67,8 @@ def moments(start: datetime.date, minutes: int, low: float, high: float, fits: F
     began = datetime.datetime(start.year, start.month, start.day)
     if isinstance(start, datetime.datetime):
         began = start
-    months = next((marks for marks in _by_months(began, minutes, low, high) if fits(marks)), [])
+    none: List[Mark] = []
+    months = next((marks for marks in _by_months(began, minutes, low, high) if fits(marks)), none)
     if len(months) >= 3:
         return months
     return next((marks for marks in _by_clock(began, minutes, low, high) if marks and fits(marks)), months)

@@ -47,7 +47,7 @@ def boxes(svg: str) -> List[Tuple[float, float, float, float, str]]:
 
 def lengths(svg: str, role: str) -> List[str]:
     """The paths of a role in the plot."""
-    return [path.get("d") for path in ElementTree.fromstring(svg).find(f"{SVG}g[@clip-path]").iter(f"{SVG}path") if path.get("class") == role]
+    return [path.get("d") for path in ElementTree.fromstring(svg).find(f"{SVG}g[@clip-path]").iter(f"{SVG}path") if path.get("class") == picture.PREFIX + role]
 
 
 class Words(unittest.TestCase):
@@ -251,7 +251,7 @@ class Readers(unittest.TestCase):
         svg = drawn(MONTHS)
         for element in ElementTree.fromstring(svg).iter():
             for role in (element.get("class") or "").split():
-                attribute, light, dark = picture.COLOURS[role]
+                attribute, light, dark = picture.COLOURS[role[len(picture.PREFIX) :]]
                 self.assertEqual(element.get(attribute), light)
                 self.assertIn(f".{role}{{{attribute}:{dark}}}", svg)
             if element.tag in (f"{SVG}path", f"{SVG}circle", f"{SVG}text"):

@@ -3,6 +3,7 @@
 import importlib.machinery
 import importlib.util
 import os
+import subprocess
 import sys
 import unittest
 
@@ -37,6 +38,12 @@ class Positivity(unittest.TestCase):
         later = [28 + k / 8 for k in range(57 * 8 + 1)]
         self.assertEqual(curve.values(later), longer.values(later))
         self.assertEqual(min(longer.values([k / 64 for k in range(28 * 64)])), 0.0)
+
+    def test_the_page_tells_what_the_command_tells(self) -> None:
+        done = subprocess.run([sys.executable, "order", "examples/cheap-first-month.txt"], cwd=HOME, stdout=subprocess.PIPE, stderr=subprocess.PIPE, text=True)
+        self.assertEqual(done.returncode, 0)
+        with open(os.path.join(HOME, "docs", "SHAPES.md"), encoding="utf-8") as page:
+            self.assertIn(f"    {done.stderr}", page.read())
 
     def test_drawn_strips(self) -> None:
         below_zero = tool()
