@@ -167,8 +167,8 @@ def content(orders: Sequence[Order], curves: Sequence[Curve]) -> Content:
 
 
 def heights(shown: Content) -> Scale:
-    """The lowest price and the highest that a picture shows, with some air. What is carried on beyond the ends may double the height and double it again,
-    and is cut off there: nothing holds it."""
+    """The lowest price and the highest that a picture shows, with some air. What is carried on beyond the ends is shown as far as the strip's own height
+    below and above it, and is cut off there: nothing holds it."""
     first, last = shown.first.knots[0], shown.first.knots[-1]
     within: List[float] = list(shown.first.averages[1:])
     beyond: List[float] = []
@@ -182,7 +182,10 @@ def heights(shown: Content) -> Scale:
     reach = high - low or abs(high) or 1.0
     low, high = max(min([low, *beyond]), low - reach), min(max([high, *beyond]), high + reach)
     pad = (high - low) * 0.06 or abs(high) * 0.1 or 1.0
-    low, high = low - pad if low != 0 else low, high + pad
+    # Air does not reach over 0 where no price does.
+    least = 0.0 if low >= 0 else -math.inf
+    most = 0.0 if low < 0 and high <= 0 else math.inf
+    low, high = max(low - pad, least), min(high + pad, most)
     if not math.isfinite((high - low) * 4):
         raise ValueError("the prices lie too far apart to be drawn")
     return low, high

@@ -192,6 +192,20 @@ class Contents(unittest.TestCase):
             with self.assertRaises(ValueError):
                 drawn(MONTHS, scale=scale)
 
+    def test_air_does_not_reach_over_zero(self) -> None:
+        def scale(averages: str) -> Tuple[float, float]:
+            order = read_order("order.txt", f"positivity: off\n0\n1 {averages.replace(' ', chr(10) + '2 ')}\nat 1\n".encode())
+            return picture.scale_of([order], [curve_of(order)])
+
+        # The nodes of the ends, and with them the lowest price and the highest, lie a quarter of the step beyond the two averages.
+        self.assertEqual(scale("0 0"), (0.0, 1.0))
+        self.assertAlmostEqual(scale("1 2")[0], 0.75 - 0.06 * 1.5)
+        self.assertAlmostEqual(scale("1 2")[1], 2.25 + 0.06 * 1.5)
+        self.assertEqual(scale("1 4.8")[0], 0.0)
+        self.assertEqual(scale("-1 -4.8")[1], 0.0)
+        self.assertLess(scale("1 6")[0], -0.25)
+        self.assertGreater(scale("-1 -6")[1], 0.25)
+
     def test_prices_that_are_not_finite_are_marked(self) -> None:
         svg = drawn("monotonicity: 1\nquadraticity: 0\npositivity: off\n0\n1 2\n2 1\n3 1\nat 1\n")
         self.assertIn("no finite price", texts_of(svg))
