@@ -210,7 +210,7 @@ def below_averages(order: Order) -> List[str]:
     if not order.settings["positivity"]:
         return []
     lines = [
-        f"{order.place(order.average_lines[k])}: {period(order, k)} traded at {short(average)}, and positivity is for averages above 0; 'positivity: off' takes any"
+        f"{order.place(order.average_lines[k])}: {period(order, k)} traded at {short(average)}, and positivity is for averages above 0"
         for k, average in enumerate(order.averages)
         if k > 0 and average <= 0
     ]
@@ -248,15 +248,18 @@ def not_finite(found: Answer) -> Tuple[int, List[str]]:
     """How many answers are not finite, printed or looked at, and a line to each period that has one."""
     order, curve = found.order, found.curve
     printed = sum(not all(map(math.isfinite, numbers)) for table in found.tables for numbers in table.numbers())
-    places: Dict[int, float] = {}
-    for x in asked_points(found) + [x for inside in looks(order) for x in inside]:
-        if not (math.isfinite(curve.value(x)) and math.isfinite(curve.primitive(x))):
-            places.setdefault(period_at(order, x), x)
-    lines = [f"{order.place(order.average_lines[k])}: no finite price or total at {near(order, x)}, in the period {period(order, k)}: {cause(order, k)}" for k, x in sorted(places.items())]
+    xs = asked_points(found) + [x for inside in looks(order) for x in inside]
+    places: Dict[int, str] = {}
+    for x, price, total in zip(xs, curve.values(xs), curve.primitives(xs)):
+        if not (math.isfinite(price) and math.isfinite(total)):
+            places.setdefault(period_at(order, x), f"no finite {'total' if math.isfinite(price) else 'price'} at {near(order, x)}")
+    lines = [f"{order.place(order.average_lines[k])}: {what}: {period(order, k)} {cause(order, k)}" for k, what in sorted(places.items())]
+    lines = told(lines, order, "periods with no finite price")
     if printed:
         count = sum(len(table.rows) for table in found.tables)
-        lines.append(f"{order.name}: {printed} of {count} {'answer' if count == 1 else 'answers'} {'is' if printed == 1 else 'are'} not finite; docs/SHAPES.md says which tables do that")
-    return max(printed, len(places)), told(lines, order, "periods with no finite price")
+        noun = "answer" if count == 1 else "answers"
+        lines.append(f"{order.name}: {printed} of {count} {noun} {'is' if printed == 1 else 'are'} not finite; docs/SHAPES.md says which tables do that")
+    return max(printed, len(places)), lines
 
 
 def asked_points(found: Answer) -> List[float]:
@@ -267,13 +270,13 @@ def cause(order: Order, k: int) -> str:
     """Why a period has a price that is not finite."""
     average, s = order.averages[k], order.settings
     if s["positivity"] and average == 0:
-        return "it traded at exactly 0, with positivity on"
+        return "traded at exactly 0, with positivity on"
     if s["positivity"] and average < 0:
-        return "it traded below 0, with positivity on"
+        return "traded below 0, with positivity on"
     beside = [order.averages[j] for j in (k - 1, k + 1) if 1 <= j < len(order.averages)]
     if s["monotonicity"] == 1 and average in beside:
-        return "it traded as its neighbour did, at monotonicity 1"
-    return "its numbers are too large or too small for a 64-bit float on the way"
+        return "traded as its neighbour did, at monotonicity 1"
+    return "has numbers that are too large or too small for a 64-bit float"
 
 
 def below_prices(found: Answer) -> List[str]:

@@ -112,7 +112,7 @@ def check(answer: Answer) -> List[str]:
         held = f"holds {form(one.held)}" if math.isfinite(one.held) else "has no finite total"
         lines.append(f"  {period(order, one.period)} traded at {form(one.traded)} and {held} (line {order.average_lines[one.period]})")
     if any(math.isfinite(one.held) for one in lost):
-        lines.append("  The rows around the ends of such a period carry the difference; docs/SHAPES.md says how to keep away from this.")
+        lines.append("  The rows around its ends carry the difference; docs/SHAPES.md says how to avoid this.")
     return lines
 
 

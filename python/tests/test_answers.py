@@ -128,7 +128,7 @@ class Kept(unittest.TestCase):
 class Told(unittest.TestCase):
     def test_averages_at_or_below_0_with_positivity(self):
         ran = run("-", text="0\n1 2\n2 0\n3 -1\n4 2\nat 0.5\n")
-        self.assertIn("standard input:3: 1 to 2 traded at 0.0000, and positivity is for averages above 0; 'positivity: off' takes any\n", ran.told)
+        self.assertIn("standard input:3: 1 to 2 traded at 0.0000, and positivity is for averages above 0\n", ran.told)
         self.assertIn("standard input:4: 2 to 3 traded at -1.0000, and positivity", ran.told)
         self.assertEqual(run("-", text="positivity: off\n0\n1 2\n2 0\n3 -1\n4 2\nat 0.5\n").told, "")
 
@@ -144,21 +144,21 @@ class Told(unittest.TestCase):
 
     def test_no_finite_price(self):
         cases = [
-            ("0\n1 2\n2 0\n3 2\nat 1\n", 3, "at 1, in the period 1 to 2: it traded at exactly 0, with positivity on"),
-            ("quadraticity: 0\nmonotonicity: 1\npositivity: off\n0\n1 2\n2 1\n3 1\nat 1\n", 6, "at 1, in the period 1 to 2: it traded as its neighbour did, at monotonicity 1"),
-            ("0\n1 1\n2 -1\n3 1\nat 1.5\n", 3, "in the period 1 to 2: it traded below 0, with positivity on"),
-            ("positivity: off\n0\n10 1e308\n20 1e308\nat 15\n", 3, "its numbers are too large or too small for a 64-bit float on the way"),
+            ("0\n1 2\n2 0\n3 2\nat 1\n", 3, "price at 1: 1 to 2 traded at exactly 0, with positivity on"),
+            ("quadraticity: 0\nmonotonicity: 1\npositivity: off\n0\n1 2\n2 1\n3 1\nat 1\n", 6, "price at 1: 1 to 2 traded as its neighbour did, at monotonicity 1"),
+            ("0\n1 1\n2 -1\n3 1\nat 1.5\n", 3, "total at 1.[0-9]+: 1 to 2 traded below 0, with positivity on"),
+            ("positivity: off\n0\n10 1e308\n20 1e308\nat 15\n", 3, "0 to 10 has numbers that are too large or too small for a 64-bit float"),
         ]
         for text, line, cause in cases:
             with self.subTest(text=text):
                 ran = run("-", text=text)
                 self.assertEqual(ran.status, 4)
-                self.assertRegex(ran.told, rf"(?m)^standard input:{line}: no finite price or total .*{cause}$")
+                self.assertRegex(ran.told, rf"(?m)^standard input:{line}: no finite .*{cause}$")
 
     def test_not_finite_where_nothing_is_printed_of_it(self):
         ran = run("-", text="0\n1 2\n2 0\n3 2\nat 0.5\n")
         self.assertEqual(ran.status, 4)
-        self.assertIn("no finite price or total at 1, in the period 1 to 2", ran.told)
+        self.assertIn("no finite price at 1: 1 to 2 traded at exactly 0", ran.told)
 
     def test_many_lines_are_counted(self):
         text = "".join(f"{k} {k + 1} -1\n" for k in range(30)) + "at 0\n"
