@@ -14,9 +14,10 @@ _WIDTHS = {
     78: "DG&", 79: "OQ", 82: "w", 84: "#+<=>^~", 87: "M", 95: "%", 98: "m", 99: "W", 100: "@",
 }  # fmt: skip
 _WIDTH_OF = {letter: width for width, letters in _WIDTHS.items() for letter in letters}
-# No other character of the fonts that are named is wider than the font's size, but for a few that no order needs; and a bold one is at most so much
-# wider than the same one that is not.
-_WIDEST = 100
+# Other letters are at most as wide as the font's size, and signs that are little pictures somewhat wider. A bold letter is at most so much wider than the
+# same one that is not.
+_LETTER = 100
+_SIGN = 140
 _BOLD = 14
 
 
@@ -25,7 +26,8 @@ def width(text: str, size: float, bold: bool = False) -> float:
     total = 0
     for letter in unicodedata.normalize("NFD", text):
         if not unicodedata.combining(letter):
-            total += _WIDTH_OF.get(letter, _WIDEST) + (_BOLD if bold else 0)
+            other = _SIGN if unicodedata.category(letter) == "So" else _LETTER
+            total += _WIDTH_OF.get(letter, other) + (_BOLD if bold else 0)
     return total * size / 100
 
 

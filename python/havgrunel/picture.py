@@ -259,13 +259,14 @@ def draw(orders: Sequence[Order], curves: Sequence[Curve], scale: Optional[Scale
     begin = max(float(LEFT), max(width(label, FONT) for _, label in marks) + EDGE + 2)
     frame = Frame(shown.left, shown.right, low, high, begin, below + 14)
     foot = footing(shown, frame)
-    name = f"{PREFIX}{zlib.crc32(repr((head, shown.first.knots, low, high)).encode()):08x}"
+    about = description(shown)
+    name = f"{PREFIX}{zlib.crc32(repr((head, about, low, high)).encode('utf-8', 'replace')):08x}"
     title = str(shown.first.settings["title"]) or os.path.basename(shown.first.name)
     out = [
         f'<svg xmlns="http://www.w3.org/2000/svg" viewBox="0 0 {WIDE} {at(foot[1])}" width="{WIDE}" height="{at(foot[1])}" role="img"'
         f' aria-labelledby="{name}-title {name}-about" font-family="DejaVu Sans, Verdana, Arial, sans-serif" font-size="{FONT}" {painted("ink")}>',
         f'<title id="{name}-title">{clean(title)}</title>',
-        f'<desc id="{name}-about">{clean(description(shown))}</desc>',
+        f'<desc id="{name}-about">{clean(about)}</desc>',
         style(),
         f'<clipPath id="{name}-plot"><rect x="{at(begin - 2)}" y="{at(frame.top - 2)}" width="{at(frame.end - begin + 4)}" height="{HIGH + 4}"/></clipPath>',
         f'<rect width="{WIDE}" height="{at(foot[1])}" {painted("ground")}/>',
@@ -277,7 +278,7 @@ def draw(orders: Sequence[Order], curves: Sequence[Curve], scale: Optional[Scale
         *(curve_path(curve, frame, k) for k, curve in enumerate(shown.drawn)),
         "</g>",
         *(text_at(begin - 8, frame.down(y) + 5, label, ' text-anchor="end"') for y, label in marks),
-        *(ring(frame.across(x), frame.foot) for x in faults(shown)),
+        *rings(shown, frame),
         *foot[0],
     ]
     return "\n".join(out) + "\n</svg>\n"
@@ -378,6 +379,17 @@ def faults(shown: Content) -> List[float]:
     return sorted(found)
 
 
+def rings(shown: Content, frame: Frame) -> List[str]:
+    """A ring at the foot for each fault that is not right beside another."""
+    out = []
+    last = -math.inf
+    for x in map(frame.across, faults(shown)):
+        if x - last >= 3:
+            out.append(ring(x, frame.foot))
+            last = x
+    return out
+
+
 def ring(x: float, y: float) -> str:
     return f'<circle cx="{at(x)}" cy="{at(y)}" r="5" {painted("ground", "fault")} stroke-width="2.5"/>'
 
@@ -427,8 +439,9 @@ def entries(shown: Content, low: float, high: float) -> List[Tuple[str, str]]:
         found.append((ring(15, -5), "no finite price"))
     if any(curve.cut for curve in shown.drawn):
         found.append(("", f"drawn from {show(shown.first, shown.left)} to {show(shown.first, shown.right)}"))
-    prices = [price for curve in shown.drawn for stretch in curve.stretches for _, price in stretch if math.isfinite(price)]
-    if prices and (min(prices) < low or max(prices) > high):
+    prices = [price for curve in shown.drawn for stretch in curve.stretches for _, price in stretch]
+    rows = shown.rows.averages if shown.rows else []
+    if any(math.isfinite(price) and not low <= price <= high for price in [*shown.first.averages[1:], *prices, *rows]):
         found.append(("", "cut off at the edge"))
     return found
 

@@ -212,6 +212,10 @@ class Contents(unittest.TestCase):
         self.assertNotIn("nan", svg)
         self.assertNotIn("inf", re.sub("no finite", "", svg))
 
+        # A whole period without a price is no chain of a hundred rings.
+        svg = drawn("positivity: on\n0\n1 1\n2 -1\n3 1\nevery 0.01\n")
+        self.assertLess(svg.count("<circle"), 90)
+
     def test_any_table_is_drawn_or_told(self) -> None:
         source = random.Random(4)
         told = 0
@@ -254,8 +258,9 @@ class Readers(unittest.TestCase):
         self.assertIn("4 periods from 2026-10-01 to 2027-02-01, traded from 22 to 37 EUR/MWh", about.text)
 
     def test_two_pictures_on_a_page_have_their_own_names(self) -> None:
-        found = [re.findall('id="([^"]*)"', drawn(text)) for text in (MONTHS, "title: other\n" + MONTHS)]
-        self.assertFalse(set(found[0]) & set(found[1]))
+        texts = MONTHS, "title: other\n" + MONTHS, "quadraticity: 1\n" + MONTHS
+        for one, other in itertools.combinations([set(re.findall('id="([^"]*)"', drawn(text, scale=(0.0, 50.0)))) for text in texts], 2):
+            self.assertTrue(one and other and not one & other)
 
     def test_signs_that_no_xml_may_hold_are_replaced(self) -> None:
         root = ElementTree.fromstring(drawn("title: a\x01b\x1bc\ufffe ]]> & < > \" '\n" + MONTHS))
