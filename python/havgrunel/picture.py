@@ -22,8 +22,9 @@ Scale = Tuple[float, float]
 
 # ---- Colours ----
 
-# What is painted, and how: the attribute, its colour on a light ground and on a dark one. The colours of the curves and of the steps can be told apart by
-# readers who don't see red, green or blue, and each stands out from its ground by 3 to 1 at the least; python/tests/test_picture.py measures both.
+# What is painted, and how: the attribute, its colour on a light ground and on a dark one. Any two of the colours of the curves and of the steps lie 40 apart
+# in CIE Lab on a light ground and 45 on a dark one, to eyes that see all colours and to those that lack one of the three receptors, and each stands out from
+# the ground and from a period's area by 3 to 1. python/tests/test_picture.py measures both.
 COLOURS: Dict[str, Tuple[str, str, str]] = {
     "ground": ("fill", "#ffffff", "#12161c"),
     "ink": ("fill", "#222222", "#e6e6e6"),
