@@ -110,9 +110,11 @@ def write_out(data: bytes) -> None:
 
 
 def tell(line: str) -> None:
-    """A line on standard error, where there is one."""
+    """A line on standard error, where there is one. As with standard output, nothing is left for Python to write when it ends."""
+    data = (line + "\n").encode("utf-8", "backslashreplace")
     try:
-        if sys.stderr is not None:
-            print(line, file=sys.stderr, flush=True)
-    except OSError:
-        pass
+        os.write(sys.stderr.fileno(), data)
+    except (OSError, ValueError, AttributeError):
+        # It is closed, full, or no file; a stand-in that keeps texts is written to as such.
+        if hasattr(sys.stderr, "getvalue"):
+            sys.stderr.write(data.decode())
