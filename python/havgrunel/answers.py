@@ -7,13 +7,13 @@ subtraction and division.
 import bisect
 import math
 from dataclasses import dataclass, field
-from typing import Dict, List, NamedTuple, Optional, Sequence, Tuple, Union
+from typing import Callable, Dict, List, NamedTuple, Optional, Sequence, Tuple, Union
 
 from .curve import Curve, Method
+from .faults import Stop
 from .refusals import Refused
 from .section import Section
 from .text import Order, Points, Rows, moment, needs_clock, show
-from .faults import Stop
 
 # How far what a period holds may lie from what it traded at before it counts as lost, as a part of the largest number that goes into it: its average, its
 # nodes, or the totals at its ends over its length. In 10,000 drawn strips with positivity off rounding alone came to 2.5e-12 up to monotonicity 0.99, and
@@ -285,25 +285,25 @@ def below_prices(found: Answer) -> List[str]:
     if not order.settings["positivity"]:
         return []
     lowest: Dict[int, Tuple[float, str]] = {}
-    scales = {one.period: one.scale for one in found.held}
 
-    def look(x: float, value: float, what: str) -> None:
+    def look(x: float, value: float, what: Callable[[], str]) -> None:
+        if not value < 0:
+            return
         k = period_at(order, x)
-        if value < -ROUNDING * scales[k] and value < lowest.get(k, (0.0, ""))[0]:
-            lowest[k] = (value, what)
+        if value < -ROUNDING * found.held[k - 1].scale and value < lowest.get(k, (0.0, ""))[0]:
+            lowest[k] = (value, what())
 
     inner = [x for inside in looks(order) for x in inside]
     for x, price in zip(inner, curve.values(inner)):
-        look(x, price, f"the price near {near(order, x)}")
+        look(x, price, lambda: f"the price near {near(order, x)}")
     for section in curve.sections:
-        value = section.value(section.x_next)
-        look(section.x_prev, value, f"the price just before {show(order, section.x_next)}")
+        look(section.x_prev, section.value(section.x_next), lambda: f"the price just before {show(order, section.x_next)}")
     for table in found.tables:
         for row in table.rows:
             if isinstance(row, OverRow):
-                look(row.start, row.price, f"the price at {show(order, row.start)}")
-                look(row.start, row.average, f"the average from {show(order, row.start)} to {show(order, row.end)}")
+                look(row.start, row.price, lambda: f"the price at {show(order, row.start)}")
+                look(row.start, row.average, lambda: f"the average from {show(order, row.start)} to {show(order, row.end)}")
             else:
-                look(row.at, row.price, f"the price at {show(order, row.at)}")
+                look(row.at, row.price, lambda: f"the price at {show(order, row.at)}")
     lines = [f"{order.place(order.average_lines[k])}: {what} is {short(value)}, below 0 although positivity is on" for k, (value, what) in sorted(lowest.items())]
     return told(lines, order, "periods with a price below 0")

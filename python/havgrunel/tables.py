@@ -95,8 +95,7 @@ def short_last(order: Order, asked: Rows) -> str:
     length = asked.edges[-1] - asked.edges[-2]
     if length >= asked.step * (1 - 1e-9):
         return ""
-    unit = order.unit or str(order.settings["time"])
-    return f"The last row ends at {show(order, asked.edges[-1])}: it is {length:.6g}{' ' + unit if unit else ''} long, and the others {asked.step:.6g}."
+    return f"The last row is shorter than the others: it ends at {show(order, asked.edges[-1])}."
 
 
 def check(answer: Answer) -> List[str]:

@@ -375,6 +375,9 @@ def read_line(order: Order, strip: Optional[Strip], asked: List[Tuple[Line, str]
         return strip
     if asked:
         raise Bad("knots come before what is asked")
+    key = next((key for key in SETTINGS if " ".join(kept.lower().split()).startswith(key + " ")), None)
+    if key is not None:
+        raise Bad(f"'{key}' is a setting, and a colon stands behind it: {key}: {quoted(kept.split()[-1])[1:-1]}")
     strip = strip or Strip(order.settings["first average"] == "not read")
     strip.add(items(kept), line)
     return strip

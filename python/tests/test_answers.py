@@ -58,7 +58,7 @@ class Days(unittest.TestCase):
     def test_the_end_of_the_strip_is_no_day(self):
         out = run("-", text="0\n2.5 3\ndaily\n").out
         self.assertEqual([row[0] for row in table_rows(out)], ["0", "1", "2"])
-        self.assertIn("The last row ends at 2.5: it is 0.5 days long, and the others 1.\n", out)
+        self.assertIn("The last row is shorter than the others: it ends at 2.5.\n", out)
 
     def test_a_row_is_the_curve_over_it(self):
         found = answer(read("2026-10 29.40\n2026-11 31.85\nhourly\nat 2026-10-15 06:00\n"))

@@ -96,6 +96,7 @@ BAD = [
     ("title:\n", 1, "the setting has no value"),
     ("quadraticity:\n", 1, "'' is not a number"),
     ("convexity: 1\n", 1, f"there is no setting 'convexity'; there are: {SETTINGS}"),
+    ("quadraticity 0.3\n0\n1 2\n", 1, "'quadraticity' is a setting, and a colon stands behind it: quadraticity: 0.3"),
     ("first average: read\n", 1, "the first average can be said to be 'not read', and this says 'read'"),
     ("time: hours\n2026-10 3\ndaily\n", 1, "the knots are dates and count days, and the time is said to be in 'hours'"),
     (b"0\n1 2\xff\n", 2, "this is not UTF-8 text"),
