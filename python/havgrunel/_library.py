@@ -96,12 +96,19 @@ def _made(progress: Optional[bool]) -> str:
         raise LibraryMissing(_no_kit())
     words = [archive, "--shared"] + ([] if progress is None else ["--progress" if progress else "--quiet"])
     try:
-        made = subprocess.run(words, stdin=subprocess.DEVNULL, stdout=subprocess.PIPE, check=False)
+        making = subprocess.Popen(words, stdin=subprocess.DEVNULL, stdout=subprocess.PIPE)
     except OSError as fault:
         raise LibraryMissing(f"havgrunel: tools/archive, which makes the library, cannot be run: {fault.strerror}.") from None
-    if made.returncode != 0:
-        raise LibraryMissing(f"havgrunel: the library of proved functions could not be made (tools/archive ended with status {made.returncode}).")
-    return os.fsdecode(made.stdout).rstrip("\n").rpartition("\n")[2]
+    try:
+        told, _ = making.communicate()
+    except BaseException:
+        # Stopped, by Ctrl-C as it may be. It ends what it has started, and is waited for so that its last word comes before ours.
+        making.terminate()
+        making.wait()
+        raise
+    if making.returncode != 0:
+        raise LibraryMissing(f"havgrunel: the library of proved functions could not be made (tools/archive ended with status {making.returncode}).")
+    return os.fsdecode(told).rstrip("\n").rpartition("\n")[2]
 
 
 def _no_kit() -> str:
