@@ -52,6 +52,7 @@ and the rows above it are found out. It asks 'daily' where --ask asks nothing.
 import argparse
 import os
 import sys
+import traceback
 from typing import List, Optional, Sequence
 
 from . import __version__
@@ -220,4 +221,8 @@ def main(argv: Optional[List[str]] = None) -> int:
         return 130
     except MemoryError:
         tell(f"{prog}: there is not enough memory")
+        return 3
+    except Exception as fault:
+        place = traceback.extract_tb(fault.__traceback__)[-1]
+        tell(f"{prog}: this is a fault of the command itself, please report it: {type(fault).__name__} in {os.path.basename(place.filename)}:{place.lineno}: {fault}")
         return 3

@@ -121,7 +121,7 @@ def chosen(heading: List[str], rows: List[Row]) -> List[Row]:
 
 def decimal_sign(rows: Iterable[Row], separator: str) -> str:
     """The sign before a number's decimals, found out from all numbers of the table."""
-    cells = [(line, cell) for line, row in rows for cell in row if DIGITS.fullmatch(cell) and not known_but_number(cell)]
+    cells = [(line, cell) for line, row in rows for cell in row if DIGITS.fullmatch(cell)]
     commas = [(line, cell) for line, cell in cells if "," in cell]
     if not commas:
         return "."
@@ -134,10 +134,6 @@ def decimal_sign(rows: Iterable[Row], separator: str) -> str:
     if separator != ";" and all(THREE.fullmatch(cell) for _, cell in commas):
         raise Located(commas[0][0], f"{quoted(commas[0][1])} may be {commas[0][1].replace(',', '.')} or {commas[0][1].replace(',', '')}: write it with another number of decimals, or with none of the commas")
     return ","
-
-
-def known_but_number(cell: str) -> bool:
-    return known(cell) and item(cell).kind != "number"
 
 
 def cell_item(cell: str, sign: str) -> Item:

@@ -73,6 +73,7 @@ class Strip:
         if len(found) == 3 and found[1].is_point:
             return PERIODS
         if len(found) == 2:
+            price(found[1])
             raise Bad(first_average(first, found[1]))
         raise Bad("a table's first line is a knot alone, a period and its price, or START END PRICE")
 

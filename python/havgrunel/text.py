@@ -279,7 +279,7 @@ def begin(name: str, sets: Sequence[str]) -> Order:
     return order
 
 
-def unit_of(order: Order, strip: Strip, words_asked: Sequence[str]) -> str:
+def unit_of(order: Order, strip: Strip, asked: Sequence[Tuple[Line, str]]) -> str:
     """What a knot counts: 'days', 'hours', or '' where nobody says."""
     said = str(order.settings["time"]).lower()
     if order.dates:
@@ -289,11 +289,13 @@ def unit_of(order: Order, strip: Strip, words_asked: Sequence[str]) -> str:
         return unit
     if said:
         return said if said in ("days", "hours") else ""
-    asked = {"daily": "days", "hourly": "hours"}
-    units = {asked[word] for word in words_asked if word in asked}
-    if len(units) > 1:
-        raise order.bad(None, "'daily' and 'hourly' are asked of knots that are numbers: a setting 'time: days' or 'time: hours' says what they count")
-    return units.pop() if units else ""
+    unit = ""
+    for line, text in asked:
+        word = {"daily": "days", "hourly": "hours"}.get(text.split()[0].lower(), unit)
+        if unit and word != unit:
+            raise order.bad(line, "'daily' and 'hourly' are both asked of knots that are numbers: a setting 'time: days' or 'time: hours' says what they count")
+        unit = word
+    return unit
 
 
 def finish(order: Order, strip: Strip, asked: Sequence[Tuple[Line, str]]) -> Order:
@@ -301,7 +303,7 @@ def finish(order: Order, strip: Strip, asked: Sequence[Tuple[Line, str]]) -> Ord
     order.dates = bool(strip.points) and not strip.counts()
     order.knots, order.averages = strip.knots(), strip.averages
     order.knot_lines = order.average_lines = strip.lines
-    order.unit = unit_of(order, strip, [text.split()[0].lower() for _, text in asked])
+    order.unit = unit_of(order, strip, asked)
     if order.dates:
         start = strip.points[0]
         assert isinstance(start, datetime.datetime)

@@ -2,6 +2,7 @@
 
 import os
 import platform
+import random
 import shutil
 import signal
 import struct
@@ -11,7 +12,12 @@ import tempfile
 import time
 import unittest
 
+from havgrunel.answers import answer
 from havgrunel.command import STATUSES
+from havgrunel.csvfile import read_csv
+from havgrunel.faults import Stop
+from havgrunel.tables import printed
+from havgrunel.text import read_order
 from runs import EXAMPLES, HOME, ORDER, example, run, start, table_rows
 
 WINTER = example("winter-gas.txt")
@@ -254,6 +260,31 @@ class NoTraceback(InAFolder):
         told = done.stderr.decode()
         self.assertEqual((done.returncode, done.stdout), (3, b""), told)
         self.assertIn(f"this system is {platform.system()}", told)
+
+    def test_examples_with_a_few_bytes_changed(self):
+        """Whatever a slip makes of a file, it is answered, refused or told."""
+        more = [b"\n", b" ", b"-", b",", b";", b"\t", b".", b"#", b":", b'"', b"nan", b"inf", b"1e308", b"0", b"2026-10", b"Win-26", b"at ", b"daily\n", b"hourly\n", b"\xff", b"\0", b" 14:00", b"9999-12-31", b"monotonicity: 1\n"]
+        draw, files = random.Random(16), []
+        for folder, _, names in os.walk(EXAMPLES):
+            for name in sorted(names):
+                if not name.endswith(".md"):
+                    with open(os.path.join(folder, name), "rb") as file:
+                        files.append((name, file.read()))
+        seen = set()
+        for _ in range(1500):
+            name, data = draw.choice(sorted(files))
+            for _ in range(draw.randint(1, 4)):
+                k = draw.randrange(len(data) + 1)
+                data = data[:k] + draw.choice(more) + data[k + draw.choice([0, 1, 3, 20]) :]
+            read = read_csv if name.endswith("sv") else read_order
+            try:
+                answered = answer(read(name, data))
+                printed(answered)
+                seen.add(answered.status)
+            except Stop as stop:
+                self.assertTrue(all(len(line) < 400 and line.isprintable() for line in stop.lines), stop.lines)
+                seen.add(stop.status)
+        self.assertEqual(seen, {0, 1, 2, 4})
 
     def test_bytes_that_are_no_text(self):
         for data in (b"\x00\x01\x02\xff", b"\xff\xfe0\x00", bytes(range(256)) * 40, b"0" * 100000, b":\n" * 1000, "title: \ud800".encode("utf-8", "surrogatepass")):

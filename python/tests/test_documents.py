@@ -66,6 +66,21 @@ class Documents(unittest.TestCase):
                 with self.subTest(document=document, line=f"{name}:{line}{what}"):
                     self.assertIn(f"{name}:{line}{what}", printed([name]))
 
+    def test_lowest_and_highest_days(self):
+        """The two tables of SHAPES.md that compare settings tell days of the steep winter."""
+        with open(os.path.join(HOME, "docs/SHAPES.md"), encoding="utf-8") as file:
+            text = file.read()
+        for setting, default in ("quadraticity", "0.3"), ("monotonicity", "0.7"):
+            rows = text.partition(f"| {setting.capitalize()} | lowest day")[2].partition("\n\n")[0].split("\n")[2:]
+            self.assertEqual(len(rows), 3)
+            for row in rows:
+                value, low, high = (cell.strip() for cell in row.strip("|").split("|"))
+                lines = printed([f"examples/steep-winter{'' if value == default else f'-{setting}-{value}'}.txt"])
+                days = [line.split()[:2] for line in lines if line.startswith("202")]
+                for month, shown, best in ("2026-11", low, min), ("2027-02", high, max):
+                    day, average = best((day for day in days if day[0].startswith(month)), key=lambda day: float(day[1]))
+                    self.assertRegex(shown, rf"^{re.escape(average)}, the {int(day[-2:])}(st|nd|rd|th)$")
+
     def test_files_that_are_named(self):
         """Each order that a document names is there."""
         for document in DOCUMENTS:

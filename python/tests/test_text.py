@@ -38,6 +38,7 @@ BAD = [
     ("0\n1 2 3\nat 0\n", 2, "a knot's line has the knot and one average"),
     ("0 9\n2 2\nat 1\n", 1, f"{FIRST}: write START END PRICE, or set 'first average: not read'"),
     ("2026-10-01 29.40\n", 1, f"{FIRST}: name the periods (2026-10 29.40), write START END PRICE, or set 'first average: not read'"),
+    ("2026-10-01 2026-11-01\n", 1, "'2026-11-01' is a day, and a price stands here"),
     ("0\n2026-10-01 3\n", 2, "'2026-10-01' is a day, and the first knot is a number"),
     ("2026-10-01\n31 3\n", 2, "'31' is a number, and the first knot is a date"),
     ("2026-10-01\n2026-10-02 3\nat 0.5\n", 3, "'0.5' is a number, and the first knot is a date"),
@@ -85,6 +86,7 @@ BAD = [
     ("0\n1e17 2\nevery 1e13\n1", 4, "knots come before what is asked"),
     ("1e17\n100000000000000064 2\nevery 1\n", 3, "'every 1' is too small a step beside knots of 1.0000000000000006e+17"),
     ("time: months\n0\n1 2\ndaily\n", 4, "'daily' needs knots that count days or hours, and the time is in 'months'; 'every STEP' asks for rows in that unit"),
+    ("0\n1 2\ndaily\nat 0\nHourly\n", 5, "'daily' and 'hourly' are both asked of knots that are numbers: a setting 'time: days' or 'time: hours' says what they count"),
     ("0\n1e6 2\ndaily\n", 3, "'daily' asks for 1000000 rows, and at most 40000 are answered"),
     ("Cal-26 3\nCal-27 3\nCal-28 3\nCal-29 3\nCal-30 3\nhourly\n", 6, "'hourly' asks for 43824 rows, and at most 40000 are answered"),
     ("0\n1 2\n", 2, NOTHING),
@@ -114,11 +116,6 @@ class Wrong(unittest.TestCase):
                 with self.assertRaises(Stop) as stopped:
                     read(text)
                 self.assertEqual((stopped.exception.status, stopped.exception.lines), (2, (f"x:{line}: {what}",)))
-
-    def test_both_units_are_asked_of_numbers(self):
-        with self.assertRaises(Stop) as stopped:
-            read("0\n1 2\ndaily\nhourly\n")
-        self.assertIn("a setting 'time: days' or 'time: hours' says what they count", stopped.exception.lines[0])
 
     def test_options(self):
         cases = [
