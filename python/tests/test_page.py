@@ -1,4 +1,7 @@
-"""The examples of docs/PYTHON.md, run as a reader would: in order, in one Python. Those that need numpy, pandas or matplotlib are run where these are."""
+"""The examples of docs/PYTHON.md, run as a reader would: in order, in one Python.
+
+Those that need numpy, pandas or matplotlib are run where these are.
+"""
 
 import doctest
 import importlib.util
@@ -12,7 +15,7 @@ from havgrunel import _library
 
 PAGE = os.path.join(_library.REPOSITORY, "docs", "PYTHON.md")
 # Sections of the page that need more than the standard library.
-NEED = {"numpy": ["numpy"], "pandas": ["pandas"], "A picture with matplotlib": ["matplotlib"]}
+NEED = {"numpy", "pandas", "A picture with matplotlib"}
 
 
 def sections():
@@ -46,16 +49,22 @@ class Page(unittest.TestCase):
     def test_the_standard_library_is_enough(self):
         self.assertGreater(self.run_sections(None), 25)
 
-    def test_with_what_is_installed(self):
-        for heading, modules in NEED.items():
-            with self.subTest(heading):
-                missing = [module for module in modules if importlib.util.find_spec(module) is None]
-                if missing:
-                    self.skipTest(f"there is no {missing[0]} for this Python")
-                self.run_sections(heading)
+    def run_where_installed(self, module, heading):
+        if importlib.util.find_spec(module) is None:
+            self.skipTest(f"there is no {module} for this Python")
+        self.run_sections(heading)
+
+    def test_numpy(self):
+        self.run_where_installed("numpy", "numpy")
+
+    def test_pandas(self):
+        self.run_where_installed("pandas", "pandas")
+
+    def test_matplotlib(self):
+        self.run_where_installed("matplotlib", "A picture with matplotlib")
 
     def test_the_sections_that_need_more_are_there(self):
-        self.assertLessEqual(set(NEED), {heading for heading, _ in sections()})
+        self.assertLessEqual(NEED, {heading for heading, _ in sections()})
 
     def test_the_docstring_s_example(self):
         self.assertEqual(doctest.testmod(havgrunel), (0, 4))
