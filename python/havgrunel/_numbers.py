@@ -23,7 +23,7 @@ _KINDS = {"c": "complex numbers", "M": "dates", "m": "spans of time", "S": "byte
 
 
 class Lent:
-    """Doubles in a row that the library may read: a buffer, its count, a pointer to its start, and how answers go back."""
+    """Doubles in a row that the library may read: a buffer, how many it has, and the kind of sequence that answers go back as."""
 
     __slots__ = ("buffer", "count", "like")
 
@@ -140,9 +140,7 @@ def many(xs: Any, what: str) -> Lent:
         return _copied(xs, what, LISTS)
     if hasattr(xs, "to_numpy"):
         # A pandas Series has an index that answers keep. Whatever else has this method comes back as numpy's.
-        whole = xs.to_numpy()
-        kind = _series(xs.index) if hasattr(xs, "index") and _is_pandas(xs) and not callable(xs.index) else NUMPY
-        return _of_numpy(whole, what, kind)
+        return _of_numpy(xs.to_numpy(), what, _series(xs.index) if _is_series(xs) else NUMPY)
     if hasattr(xs, "__array_interface__"):
         return _of_numpy(xs, what, NUMPY)
     if isinstance(xs, _NOT_MANY):
@@ -155,7 +153,7 @@ def many(xs: Any, what: str) -> Lent:
     return _of_buffer(xs, view, what)
 
 
-def _is_pandas(xs: Any) -> bool:
+def _is_series(xs: Any) -> bool:
     pandas = sys.modules.get("pandas")
     return pandas is not None and isinstance(xs, pandas.Series)
 
