@@ -305,5 +305,8 @@ def below_prices(found: Answer) -> List[str]:
                 look(row.start, row.average, lambda: f"the average from {show(order, row.start)} to {show(order, row.end)}")
             else:
                 look(row.at, row.price, lambda: f"the price at {show(order, row.at)}")
-    lines = [f"{order.place(order.average_lines[k])}: {what} is {short(value)}, below 0 although positivity is on" for k, (value, what) in sorted(lowest.items())]
+    lines = [
+        f"{order.place(order.average_lines[k])}: {what} is {short(value)}, below 0 although positivity is on"
+        for k, (value, what) in sorted(lowest.items())
+    ]
     return told(lines, order, "periods with a price below 0")

@@ -53,7 +53,7 @@ import argparse
 import os
 import sys
 import traceback
-from typing import List, Optional, Sequence
+from typing import List, Optional, Sequence, Tuple
 
 from . import __version__
 from ._library import LibraryMissing, load
@@ -90,17 +90,25 @@ class Shown(argparse.Action):
 def parser_of(prog: str) -> argparse.ArgumentParser:
     about, _, text = (__doc__ or "").partition("\n\n")
     parser = argparse.ArgumentParser(
-        prog=prog, description=about, epilog=f"{text}\n{STATUSES}", formatter_class=argparse.RawDescriptionHelpFormatter, allow_abbrev=False, add_help=False
+        prog=prog,
+        description=about,
+        epilog=f"{text}\n{STATUSES}",
+        formatter_class=argparse.RawDescriptionHelpFormatter,
+        allow_abbrev=False,
+        add_help=False,
     )
-    parser.add_argument("files", metavar="FILE", nargs="+", help="an order, or a table as .csv or .tsv; '-' is an order on standard input. Several are for --plot: one table under several settings")
+    file_help = "an order, or a table as .csv or .tsv; '-' is an order on standard input. Several are for --plot: one table under several settings"
+    parser.add_argument("files", metavar="FILE", nargs="+", help=file_help)
     instead = parser.add_mutually_exclusive_group()
     instead.add_argument("--plot", metavar="SVG", help="draw the curve into this file instead ('-' is standard output)")
     instead.add_argument("--csv", metavar="FILE", help="write the table with every digit into this file instead ('-' is standard output)")
     instead.add_argument("--tsv", metavar="FILE", help="the same with tabs")
     instead.add_argument("--bytes", metavar="FILE", help="write the order's bytes, as target/bin/curveorder takes them, into this file instead")
     instead.add_argument("--exact", action="store_true", help="print each number so that it reads back as the same float")
-    parser.add_argument("--set", metavar="SETTING", action="append", default=[], help="a setting besides those of the text, as 'quadraticity: 0'; may be given several times")
-    parser.add_argument("--ask", metavar="WORDS", action="append", default=[], help="what is asked besides what the text asks, as 'hourly' or 'at 2026-10-15'; may be given several times")
+    set_help = "a setting besides those of the text, as 'quadraticity: 0'; may be given several times"
+    parser.add_argument("--set", metavar="SETTING", action="append", default=[], help=set_help)
+    ask_help = "what is asked besides what the text asks, as 'hourly' or 'at 2026-10-15'; may be given several times"
+    parser.add_argument("--ask", metavar="WORDS", action="append", default=[], help=ask_help)
     parser.add_argument("--scale", metavar="LOW:HIGH", help="the prices that a picture's axis spans, so that two pictures can be compared")
     parser.add_argument("--version", action=Shown, nargs=0, const=f"havgrunel {__version__}\n", help="print the version")
     parser.add_argument("-h", "--help", action=Shown, nargs=0, help="print this")
@@ -164,9 +172,17 @@ def tell_all(answers: Sequence[Answer], checked: bool) -> None:
                 tell(f"{one.order.name}: {line.strip()}")
 
 
+def written_to(asked: argparse.Namespace) -> Tuple[Optional[str], str]:
+    """The option that says what is written in the table's place, and where to; without one the table goes to standard output."""
+    for name in ("plot", "csv", "tsv", "bytes"):
+        if getattr(asked, name) is not None:
+            return f"--{name}", getattr(asked, name)
+    return None, "-"
+
+
 def run(asked: argparse.Namespace) -> int:
     """Answers the command line; what goes wrong is raised as Stop."""
-    option, target = next(((f"--{name}", path) for name, path in vars(asked).items() if name in ("plot", "csv", "tsv", "bytes") and path is not None), (None, "-"))
+    option, target = written_to(asked)
     if len(asked.files) > 1 and option != "--plot":
         raise Stop(2, "several files are for --plot")
     if asked.scale is not None and option != "--plot":
@@ -188,12 +204,11 @@ def run(asked: argparse.Namespace) -> int:
         for line in one.before:
             tell(line)
     if option == "--plot":
-        data = drawn(answers, scale)
+        write(target, drawn(answers, scale))
     elif option is not None:
-        data = file_text(answers[0], "," if option == "--csv" else "\t").encode()
+        write(target, file_text(answers[0], "," if option == "--csv" else "\t").encode())
     else:
-        data = printed(answers[0], asked.exact).encode("utf-8", "surrogateescape")
-    write(target, data)
+        write(target, printed(answers[0], asked.exact).encode("utf-8", "surrogateescape"))
     tell_all(answers, option is None)
     return max(one.status for one in answers)
 
@@ -224,5 +239,6 @@ def main(argv: Optional[List[str]] = None) -> int:
         return 3
     except Exception as fault:
         place = traceback.extract_tb(fault.__traceback__)[-1]
-        tell(f"{prog}: this is a fault of the command itself, please report it: {type(fault).__name__} in {os.path.basename(place.filename)}:{place.lineno}: {fault}")
+        where = f"{os.path.basename(place.filename)}:{place.lineno}"
+        tell(f"{prog}: this is a fault of the command itself, please report it: {type(fault).__name__} in {where}: {fault}")
         return 3

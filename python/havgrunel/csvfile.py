@@ -20,6 +20,8 @@ SEPARATORS = ["\t", ";", "|", ","]
 ROW_NAMES = ["start", "end", "average", "price_at_start", "total_at_end"]
 POINT_NAMES = ["point", "price", "total"]
 
+ROW_FORMS = "a row is a period and its price, START, END and a price, or a knot and its average"
+
 Row = Tuple[int, List[str]]
 
 DIGITS = re.compile(r"[+-]?[0-9][0-9.,']*|[+-]?[.,][0-9]+")
@@ -37,7 +39,7 @@ def is_table(name: str) -> bool:
 
 
 def decoded(data: bytes) -> str:
-    """The text of a file. Spreadsheets write UTF-8, UTF-16 or, in the west of Europe and America, Windows-1252; a table's own signs are the same in all."""
+    """The text of a file. Spreadsheets write UTF-8, UTF-16 or Windows-1252; a table's own signs are the same in all of them."""
     if data[:2] in (b"\xff\xfe", b"\xfe\xff"):
         return data.decode("utf-16", "replace")
     try:
@@ -104,7 +106,7 @@ def parted(text: str) -> Tuple[str, List[str], List[Row]]:
         if count > best[0]:
             best = (count, separator, heading, rows)
         elif rows and not best[0]:
-            fault = Located(rows[0][0], f"{quoted(rows[0][1][0])} stands alone in its row: a row is a period and its price, START, END and a price, or a knot and its average")
+            fault = Located(rows[0][0], f"{quoted(rows[0][1][0])} stands alone in its row: {ROW_FORMS}")
     if not best[0]:
         raise fault
     return best[1:]
@@ -132,7 +134,9 @@ def decimal_sign(rows: Iterable[Row], separator: str) -> str:
     if points or len(last) > 1:
         raise Located(commas[0][0], f"{quoted(commas[0][1])} has a comma, and other numbers of the file have a point: one of them is the decimal sign")
     if separator != ";" and all(THREE.fullmatch(cell) for _, cell in commas):
-        raise Located(commas[0][0], f"{quoted(commas[0][1])} may be {commas[0][1].replace(',', '.')} or {commas[0][1].replace(',', '')}: write it with another number of decimals, or with none of the commas")
+        line, cell = commas[0]
+        two = f"{cell.replace(',', '.')} or {cell.replace(',', '')}"
+        raise Located(line, f"{quoted(cell)} may be {two}: write it with another number of decimals, or without the comma")
     return ","
 
 
@@ -142,7 +146,8 @@ def cell_item(cell: str, sign: str) -> Item:
         grouping = "." if sign == "," else ","
         if grouping in cell and GROUPED[sign].fullmatch(cell):
             if sign not in cell:
-                raise Bad(f"{quoted(cell)} may be {cell.replace(grouping, '.')} or {cell.replace(grouping, '')}, since the file's decimal sign is a {'comma' if sign == ',' else 'point'}")
+                two = f"{cell.replace(grouping, '.')} or {cell.replace(grouping, '')}"
+                raise Bad(f"{quoted(cell)} may be {two}, since the file's decimal sign is a {'comma' if sign == ',' else 'point'}")
             cell = cell.replace(grouping, "")
         if sign == "," and "." not in cell:
             cell = cell.replace(",", ".")

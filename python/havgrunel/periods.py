@@ -11,7 +11,9 @@ from .faults import Bad, quoted
 Moment = datetime.datetime
 Span = Tuple[Moment, Moment]
 
-FORMS = "2026-10-01, 2026-10-01 14:00, 2026-10, Oct-26, 2026-Q4, Q4-26, winter 2026, Win-26, summer 2027, Sum-27, 2027, Cal-27, or a number"
+# What messages show of the forms that are taken.
+NAMES = "2026-10, Oct-26, 2026-Q4, Q4-26, winter 2026, Win-26, summer 2027, Sum-27, 2027, Cal-27"
+FORMS = f"2026-10-01, 2026-10-01 14:00, {NAMES}, or a number"
 
 MONTHS = ["january", "february", "march", "april", "may", "june", "july", "august", "september", "october", "november", "december"]
 MONTH_NAMES = {name: k + 1 for k, whole in enumerate(MONTHS) for name in (whole, whole[:3])}

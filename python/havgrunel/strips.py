@@ -8,7 +8,7 @@ import datetime
 from typing import List, Optional, Tuple, Union
 
 from .faults import Bad, quoted
-from .periods import FORMS, Item, Moment, number, unknown, whole_year
+from .periods import NAMES, Item, Moment, number, unknown, whole_year
 
 Point = Union[float, Moment]
 
@@ -82,7 +82,9 @@ class Strip:
         if found.kind == "other":
             raise unknown(found)
         if found.kind == "period":
-            raise Bad(f"{quoted(found.text)} is a period, and a {'knot' if self.form == KNOTS else 'day'} stands here" + ("; in a table of periods the first line has a price too" if self.form == KNOTS else ""))
+            if self.form == KNOTS:
+                raise Bad(f"{quoted(found.text)} is a period, and a knot stands here; in a table of periods the first line has a price too")
+            raise Bad(f"{quoted(found.text)} is a period, and a day stands here")
         if self.points and isinstance(self.points[0], float) != (found.kind == "number"):
             raise Bad(f"{quoted(found.text)} is {kind_of(found)}, and the first knot is {'a number' if isinstance(self.points[0], float) else 'a date'}")
         self.clocked = self.clocked or found.clocked
@@ -129,7 +131,7 @@ class Strip:
         if first.kind == "other":
             raise unknown(first)
         if len(found) != 3:
-            raise Bad(f"{quoted(first.text)} is no period: a line is a period and its price, or START END PRICE; periods are {FORMS.rpartition(', or')[0].partition('14:00, ')[2]}")
+            raise Bad(f"{quoted(first.text)} is no period: a line is a period and its price, or START END PRICE; periods are {NAMES}")
         start = self.point(first)
         if not self.points:
             # The second point is of the first one's kind, though nothing is kept yet.
@@ -153,9 +155,11 @@ class Strip:
             raise Bad(f"this period ({here}) comes before that of line {line} ({there}); periods stand in the order of time")
         if start < after:
             raise Bad(f"this period ({here}) and that of line {line} ({there}) overlap")
-        hint = "; END is the day after the last day, where the next period starts" if self.by_ends and isinstance(start, datetime.datetime) and start - after == A_DAY else ""
         ends, starts = told(after, self.clocked), told(start, self.clocked)
-        raise Bad(f"there is a gap between line {line} and this one: that period ends at {ends}, and this one starts at {starts}{hint}")
+        what = f"there is a gap between line {line} and this one: that period ends at {ends}, and this one starts at {starts}"
+        if self.by_ends and not self.counts() and start - after == A_DAY:
+            what += "; END is the day after the last day, where the next period starts"
+        raise Bad(what)
 
     def told_span(self, start: Point, end: Point) -> str:
         return f"{told(start, self.clocked)} to {told(end, self.clocked)}"

@@ -198,7 +198,8 @@ def step_of(order: Order, word: str, parts: List[str]) -> Fraction:
     if len(parts) > 1:
         raise Bad(f"'{word}' stands alone in its line")
     if order.unit == "":
-        raise Bad(f"'{word}' needs knots that count days or hours, and the time is in {quoted(str(order.settings['time']))}; 'every STEP' asks for rows in that unit")
+        said = quoted(str(order.settings["time"]))
+        raise Bad(f"'{word}' needs knots that count days or hours, and the time is in {said}; 'every STEP' asks for rows in that unit")
     return {"days": {"daily": Fraction(1), "hourly": Fraction(1, 24)}, "hours": {"daily": Fraction(24), "hourly": Fraction(1)}}[order.unit][word]
 
 
@@ -285,7 +286,9 @@ def unit_of(order: Order, strip: Strip, asked: Sequence[Tuple[Line, str]]) -> st
     if order.dates:
         unit = "hours" if strip.clocked else "days"
         if said and said != unit:
-            raise order.bad(order.setting_lines["time"], f"the knots are {'timestamps' if strip.clocked else 'dates'} and count {unit}, and the time is said to be in {quoted(str(order.settings['time']))}")
+            kind = "timestamps" if strip.clocked else "dates"
+            what = f"the knots are {kind} and count {unit}, and the time is said to be in {quoted(str(order.settings['time']))}"
+            raise order.bad(order.setting_lines["time"], what)
         return unit
     if said:
         return said if said in ("days", "hours") else ""
@@ -293,7 +296,8 @@ def unit_of(order: Order, strip: Strip, asked: Sequence[Tuple[Line, str]]) -> st
     for line, text in asked:
         word = {"daily": "days", "hourly": "hours"}.get(text.split()[0].lower(), unit)
         if unit and word != unit:
-            raise order.bad(line, "'daily' and 'hourly' are both asked of knots that are numbers: a setting 'time: days' or 'time: hours' says what they count")
+            what = "'daily' and 'hourly' are both asked of knots that are numbers: a setting 'time: days' or 'time: hours' says what they count"
+            raise order.bad(line, what)
         unit = word
     return unit
 
