@@ -151,7 +151,7 @@ def answer(order: Order) -> Answer:
         rows = at_points(order, curve, asked) if isinstance(asked, Points) else over_rows(curve, asked)
         tables.append(Answered(asked, rows))
     found = Answer(order, curve, tables, holdings(order, curve))
-    found.before = below_averages(order)
+    found.before = [f"{order.place(line)}: {what}" for line, what in order.doubts] + below_averages(order)
     found.not_finite, lines = not_finite(found)
     found.after = lines + below_prices(found)
     return found

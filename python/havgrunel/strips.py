@@ -4,6 +4,7 @@ A table has one of two forms, told by its first line. By knots: one knot alone, 
 period by its name and its price, or START END PRICE, where END is where the next period starts.
 """
 
+import calendar
 import datetime
 from typing import List, Optional, Tuple, Union
 
@@ -50,6 +51,8 @@ class Strip:
         self.lines: List[int] = []
         self.clocked = False
         self.by_ends = False
+        # Lines that may say something else than was meant.
+        self.doubts: List[Tuple[int, str]] = []
 
     def add(self, found: List[Item], line: int) -> None:
         """Takes one line."""
@@ -115,6 +118,8 @@ class Strip:
         self.averages.append(price(found[-1]))
         self.keep(end, line)
         self.by_ends = by_ends
+        if by_ends and isinstance(start, datetime.datetime) and isinstance(end, datetime.datetime) and is_last_day(start, end):
+            self.doubts.append((line, f"END is the day after the last day, so that {told(end, False)} is no part of this period"))
 
     def ends(self, found: List[Item]) -> Tuple[Point, Point, bool]:
         """Where a line's period starts and ends, and whether it says so itself."""
@@ -175,6 +180,11 @@ def distance(start: Moment, moment: Moment, hours: bool) -> float:
     """Days or hours from the start on, rounded once."""
     passed = moment - start
     return (passed.days * 86400 + passed.seconds) / (3600 if hours else 86400)
+
+
+def is_last_day(start: Moment, end: Moment) -> bool:
+    """Whether a period of whole months was written with its last day for its end, by the looks of it."""
+    return start.day == 1 and end.day == calendar.monthrange(end.year, end.month)[1] and (end.hour, end.minute, end.second) == (0, 0, 0)
 
 
 def first_average(first: Item, second: Item) -> str:

@@ -52,6 +52,7 @@ class Order:
     knot_lines: List[int] = field(default_factory=list)
     average_lines: List[int] = field(default_factory=list)
     setting_lines: Dict[str, Line] = field(default_factory=dict)
+    doubts: List[Tuple[int, str]] = field(default_factory=list)
 
     def place(self, line: Optional[Line]) -> str:
         """Where a message points to."""
@@ -307,6 +308,7 @@ def finish(order: Order, strip: Strip, asked: Sequence[Tuple[Line, str]]) -> Ord
     order.dates = bool(strip.points) and not strip.counts()
     order.knots, order.averages = strip.knots(), strip.averages
     order.knot_lines = order.average_lines = strip.lines
+    order.doubts = strip.doubts
     order.unit = unit_of(order, strip, asked)
     if order.dates:
         start = strip.points[0]

@@ -132,6 +132,11 @@ class Told(unittest.TestCase):
         self.assertIn("standard input:4: 2 to 3 traded at -1.0000, and positivity", ran.told)
         self.assertEqual(run("-", text="positivity: off\n0\n1 2\n2 0\n3 -1\n4 2\nat 0.5\n").told, "")
 
+    def test_an_end_that_may_be_meant_as_a_last_day(self):
+        ran = run("-", text="2026-10 3\n2026-11-01 2026-11-30 4\ndaily\n")
+        self.assertEqual((ran.status, ran.told), (0, "standard input:2: END is the day after the last day, so that 2026-11-30 is no part of this period\n"))
+        self.assertEqual(run("-", text="2026-10 3\n2026-11-01 2026-12-01 4\ndaily\n").told, "")
+
     def test_a_price_below_0_between_the_points(self):
         """The cheap first month: its lowest price is found, though no day is asked."""
         ran = run("-", text="0\n28 0.62\n56 59.03\n85 47.69\nat 0 28\n")
