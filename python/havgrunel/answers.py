@@ -10,7 +10,7 @@ from dataclasses import dataclass, field
 from typing import Callable, Dict, List, NamedTuple, Optional, Sequence, Tuple, Union
 
 from .curve import Curve, Method
-from .faults import Stop
+from .faults import Stop, clipped
 from .refusals import Refused
 from .section import Section
 from .text import Order, Points, Rows, moment, needs_clock, show
@@ -134,7 +134,7 @@ def refused_points(order: Order, curve: Curve, asked: Points) -> List[str]:
         try:
             curve.value(x)
         except Refused as refused:
-            lines.append(f"{order.place(line)}: refused at {shown}: {refused.words} (refusal {refused.number})")
+            lines.append(f"{order.place(line)}: refused at {clipped(shown)}: {refused.words} (refusal {refused.number})")
     return lines
 
 

@@ -158,7 +158,7 @@ def drawn(answers: Sequence[Answer], scale: Optional[tuple]) -> bytes:
 def only_table(order: Order, option: str) -> None:
     """A file has one table."""
     if len(order.asked) > 1:
-        kinds = [one.word if isinstance(one, Rows) else "at" for one in order.asked]
+        kinds = [quoted(one.word if isinstance(one, Rows) else "at") for one in order.asked]
         raise Stop(2, f"{order.name} asks for {' and '.join(kinds)}, and {option} writes one table: ask for one of them", placed=True)
 
 

@@ -4,10 +4,15 @@
 MOST_QUOTED = 40
 
 
+def clipped(word: str) -> str:
+    """A word of the user's, as far as a message shows it."""
+    shown = "".join(c if c.isprintable() else "?" for c in word[: MOST_QUOTED + 1])
+    return shown if len(shown) <= MOST_QUOTED else f"{shown[:MOST_QUOTED]}.."
+
+
 def quoted(word: str) -> str:
-    """A word of the user's as a message shows it."""
-    shown = "".join(c if c.isprintable() else "?" for c in word)
-    return f"'{shown}'" if len(shown) <= MOST_QUOTED else f"'{shown[:MOST_QUOTED]}..'"
+    """The same, in quotes."""
+    return f"'{clipped(word)}'"
 
 
 class Bad(ValueError):

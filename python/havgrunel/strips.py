@@ -8,7 +8,7 @@ import calendar
 import datetime
 from typing import List, Optional, Tuple, Union
 
-from .faults import Bad, quoted
+from .faults import Bad, clipped, quoted
 from .periods import NAMES, Item, Moment, number, unknown, whole_year
 
 Point = Union[float, Moment]
@@ -190,7 +190,7 @@ def is_last_day(start: Moment, end: Moment) -> bool:
 def first_average(first: Item, second: Item) -> str:
     """What is told of an average on the first knot. A list of months by their first days was read one month off by it."""
     if first.kind == "moment":
-        ways = f"name the periods ({first.moment.year:04}-{first.moment.month:02} {second.text[:20]}), write START END PRICE"
+        ways = f"name the periods ({first.moment.year:04}-{first.moment.month:02} {clipped(second.text)}), write START END PRICE"
     else:
         ways = "write START END PRICE"
     return f"the first knot has an average, and no period ends there: {ways}, or set 'first average: not read'"

@@ -7,8 +7,8 @@ from dataclasses import dataclass, field
 from fractions import Fraction
 from typing import Callable, Dict, List, Optional, Sequence, Tuple, Union
 
-from .faults import Bad, Stop, quoted
-from .periods import NUMBER, Item, items, number, unknown
+from .faults import Bad, Stop, clipped, quoted
+from .periods import Item, items, number, unknown
 from .strips import Strip, distance, kind_of
 
 # A century of days and more, or four years of hours. It keeps a slip in a date from asking for rows without end.
@@ -195,7 +195,8 @@ def step_of(order: Order, word: str, parts: List[str]) -> Fraction:
         value = number(parts[1].replace("\u2212", "-"))
         if not (math.isfinite(value) and value > 0):
             raise Bad(f"a step is above 0, and this is {quoted(parts[1])}")
-        return Fraction(parts[1]) if NUMBER.fullmatch(parts[1]) else Fraction(value)
+        # A decimal counts as it is written; one with more digits than a float has counts as the float.
+        return Fraction(parts[1] if len(parts[1]) <= 40 else value)
     if len(parts) > 1:
         raise Bad(f"'{word}' stands alone in its line")
     if order.unit == "":
@@ -385,7 +386,7 @@ def read_line(order: Order, strip: Optional[Strip], asked: List[Tuple[Line, str]
         raise Bad("knots come before what is asked")
     key = next((key for key in SETTINGS if " ".join(kept.lower().split()).startswith(key + " ")), None)
     if key is not None:
-        raise Bad(f"'{key}' is a setting, and a colon stands behind it: {key}: {quoted(kept.split()[-1])[1:-1]}")
+        raise Bad(f"'{key}' is a setting, and a colon stands behind it: {key}: {clipped(kept.split()[-1])}")
     strip = strip or Strip(order.settings["first average"] == "not read")
     strip.add(items(kept), line)
     return strip

@@ -158,7 +158,7 @@ class Files(InAFolder):
 
     def test_one_table_to_a_file(self):
         ran = run("--csv", "-", "-", text="2026-10 3\n2026-11 4\nat 2026-10-15\ndaily\n")
-        self.assertEqual(ran, (2, "", "standard input asks for at and daily, and --csv writes one table: ask for one of them\n"))
+        self.assertEqual(ran, (2, "", "standard input asks for 'at' and 'daily', and --csv writes one table: ask for one of them\n"))
 
     def test_bytes(self):
         with open(os.path.join(HOME, "crates", "curveorder", "stdin"), "rb") as file:

@@ -192,6 +192,7 @@ class Read(unittest.TestCase):
         self.assertEqual(edges("2026-10-01\n2026-10-02 1\nhourly\n"), [k / 24 for k in range(25)])
         self.assertEqual(edges("0.1\n0.5 1\nevery 0.1\n"), [0.1, 0.2, 0.3, 0.4, 0.5])
         self.assertEqual(edges("time: months\n0\n1 1\nevery 1e-1\n"), [k / 10 for k in range(11)])
+        self.assertEqual(edges("0\n1 1\nevery 0.5" + "0" * 5000), [0.0, 0.5, 1.0])
         self.assertEqual(len(edges(f"0\n{MOST_ROWS} 1\ndaily\n")), MOST_ROWS + 1)
 
     def test_points_of_all_lines_are_one_table(self):
