@@ -9,7 +9,7 @@ import io
 import re
 from typing import Iterable, List, Sequence, Tuple
 
-from .faults import Bad, quoted
+from .faults import Bad, clipped, quoted
 from .periods import Item, item, items
 from .strips import Strip
 from .text import Order, begin, finish, options_asked
@@ -135,7 +135,7 @@ def decimal_sign(rows: Iterable[Row], separator: str) -> str:
         raise Located(commas[0][0], f"{quoted(commas[0][1])} has a comma, and other numbers of the file have a point: one of them is the decimal sign")
     if separator != ";" and all(THREE.fullmatch(cell) for _, cell in commas):
         line, cell = commas[0]
-        two = f"{cell.replace(',', '.')} or {cell.replace(',', '')}"
+        two = f"{clipped(cell.replace(',', '.'))} or {clipped(cell.replace(',', ''))}"
         raise Located(line, f"{quoted(cell)} may be {two}: write it with another number of decimals, or without the comma")
     return ","
 
@@ -146,7 +146,7 @@ def cell_item(cell: str, sign: str) -> Item:
         grouping = "." if sign == "," else ","
         if grouping in cell and GROUPED[sign].fullmatch(cell):
             if sign not in cell:
-                two = f"{cell.replace(grouping, '.')} or {cell.replace(grouping, '')}"
+                two = f"{clipped(cell.replace(grouping, '.'))} or {clipped(cell.replace(grouping, ''))}"
                 raise Bad(f"{quoted(cell)} may be {two}, since the file's decimal sign is a {'comma' if sign == ',' else 'point'}")
             cell = cell.replace(grouping, "")
         if sign == "," and "." not in cell:
