@@ -15,11 +15,13 @@ from .refusals import Refused
 from .section import Section
 from .text import Order, Points, Rows, moment, needs_clock, show
 
-# How far what a period holds may lie from what it traded at before it counts as lost, as a part of the largest number that goes into it: its average, its
-# nodes, or the totals at its ends over its length. In 10,000 drawn strips with positivity off rounding alone came to 2.5e-12 up to monotonicity 0.99, and
-# in 3,000 each to 2.1e-10 at 0.999, 8.9e-9 at 0.9999 and 2.6e-10 at 1. In as many with positivity, what is lost was 8.9e-6 at least where all
-# averages are above 0, and 3.7e-8 where they are not. tests/test_answers.py draws such strips again.
-ROUNDING = 1e-8
+# How far what a period holds may lie from what it traded at before it counts as lost, as a part of the largest of its average and its two nodes. In 10,000
+# drawn strips with positivity off rounding alone came to 4.9e-12 up to monotonicity 0.99, and in 3,000 each to 3.1e-10 at 0.999, 1.3e-8 at 0.9999 and
+# 2.9e-9 at 1. In 10,000 with positivity, what was lost came to 9.9e-3 at least where all averages are above 0, and to 5.3e-7 where they are not.
+# tests/test_answers.py draws such strips again.
+ROUNDING = 1e-7
+# What is rounded off the totals at a period's ends, as a part of them. It counts where a short period stands late in a long strip.
+BLUR = 2.0**-50
 
 # Inner points of a period where its lowest price is looked for.
 LOOKS = 20
@@ -60,16 +62,18 @@ class Answered:
 
 @dataclass
 class Held:
-    """What a period traded at, and what the curve holds over it. `scale` is the largest number that goes into it."""
+    """What a period traded at, and what the curve holds over it. `scale` is the largest of its average and its two nodes, and `blur` what the rounding of
+    the totals at its ends may come to."""
 
     period: int
     traded: float
     held: float
     scale: float
+    blur: float = 0.0
 
     @property
     def kept(self) -> bool:
-        return abs(self.held - self.traded) <= ROUNDING * self.scale
+        return abs(self.held - self.traded) <= ROUNDING * self.scale + self.blur
 
 
 @dataclass
@@ -178,7 +182,7 @@ def look_inside(section: Section, gap: float, number: int, traded: float, scale:
     if gap:
         start, end = start - section.value(a) * (a - section.x_prev), end + section.value(b) * (section.x_next - b)
     length = section.x_next - section.x_prev
-    return Held(number, traded, (end - start) / length, max(scale, abs(start) / length, abs(end) / length))
+    return Held(number, traded, (end - start) / length, scale, BLUR * (abs(start) + abs(end)) / length)
 
 
 def look_again(section: Section, looked: Held, scale: float) -> Held:

@@ -30,7 +30,7 @@ def drawn(draw):
 def parts_lost(knots, averages, method):
     """How far each period lies from its average, as a part of what rounding is judged by."""
     order = Order("drawn", {}, knots=knots, averages=averages)
-    return [abs(one.held - one.traded) / one.scale if one.scale else 0.0 for one in holdings(order, Curve(knots, averages, method))]
+    return [max(0.0, abs(one.held - one.traded) - one.blur) / (one.scale or 1.0) for one in holdings(order, Curve(knots, averages, method))]
 
 
 class Days(unittest.TestCase):
@@ -78,7 +78,7 @@ class Kept(unittest.TestCase):
             method = Method(draw.choice([0.0, 0.001, 0.1, 0.3, 0.7, 1.0]), draw.choice([0.0, 0.3, 0.7, 0.9, 0.99]), False)
             parts = parts_lost(knots, averages, method)
             worst, periods = max(worst, *parts), periods + len(parts)
-        self.assertLess(worst, ROUNDING / 1000)
+        self.assertLess(worst, ROUNDING / 10000)
         self.assertGreater(periods, 100000)
 
     def test_a_loss_is_always_told(self):
@@ -88,7 +88,14 @@ class Kept(unittest.TestCase):
             averages = [0.0] + [abs(average) + 0.01 for average in averages[1:]]
             losses += [part for part in parts_lost(knots, averages, Method(0.0, draw.choice([0.0, 0.7, 0.99]), True)) if part > ROUNDING / 100]
         self.assertGreater(len(losses), 1000)
-        self.assertGreater(min(losses), ROUNDING * 100)
+        self.assertGreater(min(losses), ROUNDING * 10000)
+
+    def test_a_loss_late_in_a_long_strip(self):
+        """A day that loses its average after thousands of others is told, and no other day is."""
+        text = "quadraticity: 0\n0\n" + "".join(f"{k} 50\n" for k in range(1, 4000)) + "4000 5\n4001 3\n4001.25 0.5\nat 0\n"
+        found = answer(read(text))
+        self.assertEqual([one.period for one in found.lost], [4001])
+        self.assertAlmostEqual(found.lost[0].held, 7 / 3, 9)
 
     def test_the_lines_of_periods_that_lose(self):
         ran = run(example("falling-month-splits.txt"))
