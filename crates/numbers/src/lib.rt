@@ -17,15 +17,15 @@ pub fn is_finite(x: f64) -> bool
     x - x == 0.0
 }
 
-// x without its sign; -0.0 becomes +0.0.
+// x without its sign; -0.0 becomes +0.0. With the zeros out of the way the compiler needs no branch for the sign, which it could not foresee.
 pub fn abs(x: f64) -> f64
     ensures { λ r. ⌜ r ≡ abs x ⌝ }
 {
-    if x < 0.0 {
-        return -x;
-    }
     if x == 0.0 {
         return 0.0;
+    }
+    if x < 0.0 {
+        return -x;
     }
     x
 }
