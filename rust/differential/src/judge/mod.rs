@@ -324,9 +324,9 @@ fn query(
     entries: usize,
     due: Result<[f64; 2], u8>,
 ) -> Result<u8, Mismatch> {
-    // An answer's own buffer is the last thing that is looked at.
+    // An answer's own buffer is looked at with the curve's: after 4, 5, 7 and 10, before 12, 13 and 15.
     let due = match due {
-        Ok(_) if entries == 0 => Err(11),
+        Ok(_) | Err(12 | 13 | 15) if entries == 0 => Err(11),
         due => due,
     };
     let mut number = 0;

@@ -80,9 +80,8 @@ impl Judge {
         let due = match () {
             () if points < 2 => 4,
             () if points > MOST_POINTS => 10,
-            () if slots.len() < SLOTS * (points - 1) => 11,
+            () if slots.len() < SLOTS * (points - 1) || entries < SLOTS => 11,
             () if number >= points - 1 => 15,
-            () if entries < SLOTS => 11,
             () => 0,
         };
         let mut into: Vec<f64> = (0..entries).map(old).collect();

@@ -48,9 +48,9 @@ impl Judge {
         let judged = oracle::section_of(record);
         self.counts.sections += 1;
         let due = match &judged {
+            _ if entries < 3 => 11,
             None => 15,
             Some(_) if lent < SLOTS => 15,
-            Some(_) if entries < 3 => 11,
             Some(_) => 0,
         };
         if let (0, Some(judged)) = (due, &judged) {
