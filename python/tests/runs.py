@@ -1,4 +1,4 @@
-"""Runs the command, in this process or in one of its own, and says what came of it."""
+"""What the tests of the command share: it is run, in this process or in one of its own, and what came of it is told; and a folder to write into."""
 
 import contextlib
 import io
@@ -6,6 +6,7 @@ import os
 import subprocess
 import sys
 import tempfile
+import unittest
 from typing import List, NamedTuple, Optional, Union
 
 from havgrunel import command
@@ -35,6 +36,27 @@ class Out:
 
     def flush(self) -> None:
         pass
+
+
+class InAFolder(unittest.TestCase):
+    """Tests that have a folder to write into."""
+
+    def setUp(self):
+        folder = tempfile.TemporaryDirectory()
+        self.addCleanup(folder.cleanup)
+        self.folder = folder.name
+
+    def path(self, name):
+        return os.path.join(self.folder, name)
+
+    def written(self, name, data):
+        with open(self.path(name), "wb") as file:
+            file.write(data if isinstance(data, bytes) else data.encode())
+        return self.path(name)
+
+    def read(self, name):
+        with open(self.path(name), "rb") as file:
+            return file.read()
 
 
 def run(*words: str, text: Union[str, bytes, None] = None) -> Ran:

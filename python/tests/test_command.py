@@ -8,7 +8,6 @@ import signal
 import struct
 import subprocess
 import sys
-import tempfile
 import time
 import unittest
 
@@ -18,29 +17,10 @@ from havgrunel.csvfile import read_csv
 from havgrunel.faults import Stop
 from havgrunel.tables import printed
 from havgrunel.text import read_order
-from runs import EXAMPLES, HOME, ORDER, example, run, start, table_rows
+from runs import EXAMPLES, HOME, ORDER, InAFolder, example, run, start, table_rows
 
 WINTER = example("winter-gas.txt")
 SHORT = "0\n1 2\nat 0\n"
-
-
-class InAFolder(unittest.TestCase):
-    def setUp(self):
-        folder = tempfile.TemporaryDirectory()
-        self.addCleanup(folder.cleanup)
-        self.folder = folder.name
-
-    def path(self, name):
-        return os.path.join(self.folder, name)
-
-    def written(self, name, data):
-        with open(self.path(name), "wb") as file:
-            file.write(data if isinstance(data, bytes) else data.encode())
-        return self.path(name)
-
-    def read(self, name):
-        with open(self.path(name), "rb") as file:
-            return file.read()
 
 
 class Statuses(InAFolder):

@@ -2,12 +2,11 @@
 
 import os
 import struct
-import tempfile
 import unittest
 
 from havgrunel.csvfile import read_csv
 from havgrunel.faults import Stop
-from runs import EXAMPLES, example, run
+from runs import EXAMPLES, InAFolder, example, run
 
 MONTHS = ["2026-10", "2026-11", "2026-12", "2027-01"]
 PRICES = [29.40, 31.85, 1033.6, -0.25]
@@ -100,15 +99,7 @@ class In(unittest.TestCase):
         self.assertEqual((order.averages, order.settings["positivity"], order.asked[0].at), ([9.0, 2.0], False, [1.0]))
 
 
-class Out(unittest.TestCase):
-    def setUp(self):
-        folder = tempfile.TemporaryDirectory()
-        self.addCleanup(folder.cleanup)
-        self.folder = folder.name
-
-    def path(self, name):
-        return os.path.join(self.folder, name)
-
+class Out(InAFolder):
     def rows(self, name):
         with open(self.path(name), encoding="utf-8") as file:
             return [line.rstrip("\n").split("\t" if name.endswith(".tsv") else ",") for line in file]
