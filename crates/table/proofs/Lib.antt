@@ -1,4 +1,5 @@
 pub mod Checks
+pub mod Counts
 pub mod Outcomes
 pub mod Sound
 pub mod Unique

@@ -3,4 +3,3 @@ pub mod Table
 pub mod Check
 pub mod Sound
 pub mod Buffers
-pub mod Steps
