@@ -41,6 +41,9 @@ pub struct Counts {
     pub largest: u64,
     pub largest_seam: u64,
     pub largest_window: u64,
+    /// Tables refused for a bad knot or a falling pair, and those whose bad knot stands behind a falling pair.
+    pub refused_knots: u64,
+    pub bad_behind_a_fall: u64,
     /// Tables that were cut, those of the largest sizes and those of which every sheet was accepted; sheets, and those accepted.
     pub cut: u64,
     pub cut_largest: u64,
@@ -85,6 +88,8 @@ impl Counts {
             largest: 0,
             largest_seam: 0,
             largest_window: 0,
+            refused_knots: 0,
+            bad_behind_a_fall: 0,
             cut: 0,
             cut_largest: 0,
             cut_whole: 0,
@@ -121,6 +126,8 @@ impl Counts {
             (&mut self.largest, other.largest),
             (&mut self.largest_seam, other.largest_seam),
             (&mut self.largest_window, other.largest_window),
+            (&mut self.refused_knots, other.refused_knots),
+            (&mut self.bad_behind_a_fall, other.bad_behind_a_fall),
             (&mut self.cut, other.cut),
             (&mut self.cut_largest, other.cut_largest),
             (&mut self.cut_whole, other.cut_whole),
@@ -171,6 +178,9 @@ impl Counts {
                 missing.push(format!("refusal {number} did not occur"));
             }
         }
+        if self.bad_behind_a_fall == 0 {
+            missing.push("no bad knot stood behind a falling pair".into());
+        }
         if self.cut_whole == 0 {
             missing.push("no table was cut with all of its sheets accepted".into());
         }
@@ -194,6 +204,8 @@ impl Display for Counts {
         row("tables of 4095 points and more", self.largest)?;
         row("seam counts of the largest number", self.largest_seam)?;
         row("localisations of the largest number", self.largest_window)?;
+        row("tables refused for their knots", self.refused_knots)?;
+        row("bad knots behind a falling pair", self.bad_behind_a_fall)?;
         row("tables cut into sheets, refused ones too", self.cut)?;
         row("tables cut of 4095 points and more", self.cut_largest)?;
         row("tables cut, all sheets accepted", self.cut_whole)?;

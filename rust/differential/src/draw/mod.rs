@@ -78,12 +78,13 @@ pub fn rng(seed: u64, number: u64) -> Rng {
 
 pub fn case(seed: u64, number: u64) -> Case {
     let rng = &mut rng(seed, number);
-    match number % 18 {
+    match number % 19 {
         0..=8 => tables::build(rng),
         9..=11 => growing::growth(rng),
         12 | 13 => reading::reading(rng),
         14 => section::section(rng),
         15 => section::record(rng),
+        16 => tables::faulty(rng),
         _ => sheets::sheets(rng),
     }
 }

@@ -6,7 +6,7 @@ use oracle::answers::rng::Rng;
 
 use super::{ENDS, FINITE, NOT_SHARES};
 use super::{finite, index, pattern, points, queries, room, settings, shorten};
-use crate::case::{Case, Room, Table};
+use crate::case::{Case, Queries, Room, Table};
 
 pub fn knots(rng: &mut Rng, points: usize) -> Vec<f64> {
     let mut at = match rng.below(4) {
@@ -215,4 +215,38 @@ pub fn build(rng: &mut Rng) -> Case {
     }
     let queries = queries(rng, &table.x);
     Case::Build(table, room, queries)
+}
+
+/// A table with one bad knot and one pair that does not rise, at any two places, and sometimes a bad average: which of the three is
+/// told first. In one case of eight each fault is left out.
+pub fn faulty(rng: &mut Rng) -> Case {
+    let points = match rng.below(16) {
+        0 => MOST_POINTS - 1 + index(rng, 4),
+        1 => 301 + index(rng, MOST_POINTS - 301),
+        2 | 3 => 41 + index(rng, 260),
+        _ => 2 + index(rng, 39),
+    };
+    let mut table = table(rng, points);
+    table.seam = None;
+    let wrong = [f64::NAN, -f64::NAN, f64::INFINITY, f64::NEG_INFINITY];
+    if !rng.chance(8) {
+        let place = index(rng, points - 1);
+        let knot = table.x[place];
+        table.x[place + 1] = match rng.below(4) {
+            0 => knot,
+            1 => knot.next_down(),
+            2 => -f64::MAX,
+            _ => {
+                table.x[place] = table.x[place + 1];
+                knot
+            }
+        };
+    }
+    if !rng.chance(8) {
+        table.x[index(rng, points)] = rng.pick(&wrong);
+    }
+    if rng.chance(4) {
+        table.y[index(rng, points)] = rng.pick(&wrong);
+    }
+    Case::Build(table, Room::default(), Queries::default())
 }
