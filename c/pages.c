@@ -1,7 +1,7 @@
 /*
  * How often a call reads the knots that it refuses, counted in pages. The knots lie in memory of which two pages can be read at a time, as if they came
  * from a file: reading another page opens it, counts it, and closes the older of the two. A call that reads each knot once, from the first to the last,
- * opens each page once. The tables are refused by their last knot at the latest, so nothing but the check reads them.
+ * opens each page once. Every table here is refused, so nothing but the check reads its knots.
  */
 #define _GNU_SOURCE
 #include "havgrunel.h"
