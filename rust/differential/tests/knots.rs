@@ -128,7 +128,16 @@ fn places_throughout_a_long_table() {
     let mut lent = Lent::new(MOST_POINTS + 2);
     for points in [61, 1000, MOST_POINTS, MOST_POINTS + 1, MOST_POINTS + 2] {
         let middle = points / 2;
-        let places = [0, 1, 2, middle - 1, middle, points - 3, points - 2, points - 1];
+        let places = [
+            0,
+            1,
+            2,
+            middle - 1,
+            middle,
+            points - 3,
+            points - 2,
+            points - 1,
+        ];
         two_faults(&mut lent, points, &places);
     }
 }

@@ -4,6 +4,7 @@
 //! not legal, and counts of the largest number, where the original's own sum overflows.
 
 mod growth;
+mod knots;
 mod reading;
 mod section;
 mod sheets;
@@ -16,13 +17,6 @@ use oracle::{Record, Settings};
 use crate::case::{Case, Queries, Room, Table};
 use crate::counts::Counts;
 use crate::lent::{Lent, is_old, old};
-
-/// Settings that nothing refuses.
-const SOUND: Settings = Settings {
-    quadraticity: 0.0,
-    monotonicity: 0.0,
-    positivity: false,
-};
 
 /// A number that is not the other side's.
 #[derive(Clone)]
@@ -174,34 +168,6 @@ impl Judge {
         let nodes = nodes.expect("a table that builds has nodes");
         self.same_curve(&table.x, &curve, &nodes)?;
         self.ask(&table.x, *hold, curve, queries)?;
-        Ok(())
-    }
-
-    /// That a query refuses these knots by the number that the original has for them with sound settings and averages.
-    fn refused_knots(&mut self, knots: &[f64]) -> Agreed {
-        let sound = vec![0.0; knots.len()];
-        let judged = built(&SOUND, knots, &sound, false, None);
-        let Err(due @ (5 | 7)) = judged else {
-            return Ok(());
-        };
-        let curve = Curve {
-            sections: knots.len() - 1,
-            held: false,
-            extrapolates: true,
-            tail: tail(&[0.0; 3]),
-        };
-        let (tags, slots) = (&self.lent.tags, &self.lent.slots);
-        let number = query(knots, tags, slots, &curve, 0.0, 1, Err(due))?;
-        self.counts.queries += 2;
-        self.counts.number(number);
-        self.counts.refused_knots += 1;
-        let fall = knots.windows(2).position(|pair| pair[0] >= pair[1]);
-        let bad = knots.iter().position(|knot| !knot.is_finite());
-        if let (Some(fall), Some(bad)) = (fall, bad)
-            && fall + 1 < bad
-        {
-            self.counts.bad_behind_a_fall += 1;
-        }
         Ok(())
     }
 
