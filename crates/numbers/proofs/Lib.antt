@@ -8,3 +8,7 @@ pub mod OneOutcome
 pub mod Unique
 pub mod Nan
 pub mod Every
+pub mod AtMost
+pub mod Rounding
+pub mod Sums
+pub mod Shrinking
