@@ -26,6 +26,10 @@ module _ («f_prev» «f_next» : Float) where
       let b = «b_of» «f_prev» «f_next» «f_average» in
       lt zero (b ⊗ b ⊖ four ⊗ a ⊗ «f_prev») && le zero «d_av»
 
+-- 02, K3: what the careful split asks of the ratio; a NaN is not above 0
+unfoldable pub inPeriod : Float → Bool
+inPeriod «x_ratio» = lt zero «x_ratio» && le «x_ratio» one
+
 module _ («x_prev» «x_next» «f_prev» «f_next» «f_average» «prev_primitive» : Float) where
   abbrev pub unsplit : QuadraticMin
   unsplit = record {
@@ -70,6 +74,12 @@ module _ («x_prev» «x_next» «f_prev» «f_next» «f_average» «prev_primi
 
   unfoldable pub new : QuadraticMin
   new = cond (splits «f_prev» «f_next» «f_average») (split («av_root» «f_prev» «f_next»)) unsplit
+
+  -- 02, K3: split only where both tests pass and the ratio is above 0 and at most 1
+  unfoldable pub careful : QuadraticMin
+  careful =
+      let touching = «av_root» «f_prev» «f_next» in
+      cond (splits «f_prev» «f_next» «f_average» && inPeriod («f_average» ⊘ touching)) (split touching) unsplit
 
 module _ (s : QuadraticMin) where
   open QuadraticMin s using («split_region», x1, x2, x3, x4, a, b, c, primitive1, primitive2, «x_scaling», «x_ratio»)

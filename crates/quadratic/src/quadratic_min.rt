@@ -1,10 +1,10 @@
-// The parabola that positivity may split. Where both tests of `splits` pass, the section is two arms of a parabola that touches zero, with zero
-// between x2 and x3. Elsewhere it is the plain parabola.
+// The parabola that positivity may split. Where it splits, the section is two arms of a parabola that touches zero, with zero between x2 and x3.
+// Elsewhere it is the plain parabola. There are two rules of when: that of `new`, which is the original's, and that of `careful`.
 use crate::parabola::a_of;
 use crate::parabola::b_of;
 use crate::parabola::under;
 ghost use mathlib.Core.Path.{_≡_};
-ghost use Rattle.quadratic.specs.QuadraticMin.{new, value, primitive, «f_next», «b_av», «d_av», «av_root», splits, split, unsplit, «value_at», «primitive_at»};
+ghost use Rattle.quadratic.specs.QuadraticMin.{new, value, primitive, «f_next», «b_av», «d_av», «av_root», splits, inPeriod, split, unsplit, careful, «value_at», «primitive_at»};
 
 pub struct QuadraticMin {
     pub split_region: bool,
@@ -58,6 +58,13 @@ fn splits(f_prev: f64, f_next: f64, f_average: f64) -> bool
     false
 }
 
+// Whether a split parabola of this ratio is no longer than its period. A NaN is not above 0.
+fn in_period(x_ratio: f64) -> bool
+    ensures { λ r. ⌜ r ≡ inPeriod «x_ratio» ⌝ }
+{
+    0.0 < x_ratio && x_ratio <= 1.0
+}
+
 impl QuadraticMin {
     pub fn new(
         x_prev: f64,
@@ -80,6 +87,35 @@ impl QuadraticMin {
                 prev_primitive,
                 touching,
             );
+        }
+        Self::unsplit(x_prev, x_next, f_prev, f_next, f_average, prev_primitive)
+    }
+
+    // The careful split: only a parabola that is then no longer than its period, because a longer one loses the average.
+    pub fn careful(
+        x_prev: f64,
+        x_next: f64,
+        f_prev: f64,
+        f_next: f64,
+        f_average: f64,
+        prev_primitive: f64,
+    ) -> Self
+        ensures { λ r. ⌜ r ≡ careful «x_prev» «x_next» «f_prev» «f_next» «f_average» «prev_primitive» ⌝ }
+    {
+        let tests_pass = splits(f_prev, f_next, f_average);
+        if tests_pass {
+            let touching = av_root(f_prev, f_next);
+            if in_period(f_average / touching) {
+                return Self::split(
+                    x_prev,
+                    x_next,
+                    f_prev,
+                    f_next,
+                    f_average,
+                    prev_primitive,
+                    touching,
+                );
+            }
         }
         Self::unsplit(x_prev, x_next, f_prev, f_next, f_average, prev_primitive)
     }
