@@ -14,6 +14,7 @@ use Rattle.section.specs.declared.quadratic_part.QuadraticPart.the-variants as 
 use Rattle.section.specs.declared.convex_monotone_part.ConvexMonotonePart.{ConvexMonotonePart}
 use Rattle.section.specs.declared.convex_monotone_part.ConvexMonotonePart.the-variants as other
 use Rattle.table.specs.declared.method.ConvexMonotone.{ConvexMonotone}
+use Rattle.table.specs.declared.method.Split.{Split}
 use Rattle.choice.specs.declared.period.Period.{Period}
 use Rattle.choice.specs.Regions.{flat, minFits, inFirst}
 use Rattle.section.specs.QuadraticPart as quadratic
@@ -117,16 +118,16 @@ plain3 : (positive : Bool) (s : ConvexMonotone3) → convexSuits positive (other
 unfolding convexSuits
 plain3 positive s = refl
 
-made-suits : (period : Period) (positive min : Bool) → quadraticSuits positive (made period (positive && min)) ≡ true
+made-suits : (period : Period) (mode : Split) (positive min : Bool) → quadraticSuits positive (made period mode (positive && min)) ≡ true
 unfolding made quadraticSuits
-made-suits period true true = refl
-made-suits period true false = refl
-made-suits period false min = refl
+made-suits period mode true true = refl
+made-suits period mode true false = refl
+made-suits period mode false min = refl
 
-made-positive : (period : Period) (positive : Bool) → quadraticSuits positive (made period positive) ≡ true
+made-positive : (period : Period) (mode : Split) (positive : Bool) → quadraticSuits positive (made period mode positive) ≡ true
 unfolding made quadraticSuits
-made-positive period true = refl
-made-positive period false = refl
+made-positive period mode true = refl
+made-positive period mode false = refl
 
 by-positivity : (positive : Bool) (x y : ConvexMonotonePart) → convexSuits true x ≡ true → convexSuits false y ≡ true →
     convexSuits positive (cond positive x y) ≡ true
@@ -134,7 +135,7 @@ by-positivity true x y p q = p
 by-positivity false x y p q = q
 
 module _ (method : ConvexMonotone) (period : Period) (P N : Float) where
-  open ConvexMonotone method using («force_positive»)
+  open ConvexMonotone method using («force_positive», split)
 
   fourth-suits : (eta : Float) → convexSuits «force_positive» (fourth method period P N eta) ≡ true
   unfolding fourth convexSuits
@@ -146,7 +147,7 @@ module _ (method : ConvexMonotone) (period : Period) (P N : Float) where
 
   quadratic-suits : quadraticSuits «force_positive» (quadraticPart method period P N) ≡ true
   unfolding minKind
-  quadratic-suits = made-suits period «force_positive» (minFits P N)
+  quadratic-suits = made-suits period split «force_positive» (minFits P N)
 
 -- ---- the answer
 module _ (method : ConvexMonotone) (period : Period) where

@@ -18,7 +18,7 @@ use Rattle.choice.proofs.Signs.{less-or-equal}
 
 -- One law for each case of the choice.
 module _ (method : ConvexMonotone) (period : Period) where
-  open ConvexMonotone method using (quadraticity, «force_positive»)
+  open ConvexMonotone method using (quadraticity, «force_positive», split)
   open Period period using («x_prev», «x_next», «f_prev», «f_next», «f_average», «prev_primitive»)
 
   abbrev P : Float
@@ -35,24 +35,24 @@ module _ (method : ConvexMonotone) (period : Period) where
 
   module _ (bent : flat P N ≡ false) where
     -- a quadraticity that is not below 1.0: the quadratic part of step 2 by itself, in every region
-    pub all-quadratic : lt quadraticity one ≡ false → sectionOf method period ≡ quadratic.alone (made period («force_positive» && minFits P N))
+    pub all-quadratic : lt quadraticity one ≡ false → sectionOf method period ≡ quadratic.alone (made period split («force_positive» && minFits P N))
     unfolding sectionOf shaped minKind
     all-quadratic q = rw (bent, q)
 
     module _ (below : lt quadraticity one ≡ true) where
       -- the first region: no convex-monotone part and no weight
       pub first-mixed : inFirst P N ≡ true → lt zero quadraticity ≡ true →
-          sectionOf method period ≡ quadratic.alone (made period («force_positive» && minFits P N))
+          sectionOf method period ≡ quadratic.alone (made period split («force_positive» && minFits P N))
       unfolding sectionOf shaped firstRegion minKind
       first-mixed f q = rw (bent, below, f, q)
 
-      pub first-convex : inFirst P N ≡ true → lt zero quadraticity ≡ false → sectionOf method period ≡ quadratic.alone (made period «force_positive»)
+      pub first-convex : inFirst P N ≡ true → lt zero quadraticity ≡ false → sectionOf method period ≡ quadratic.alone (made period split «force_positive»)
       unfolding sectionOf shaped firstRegion
       first-convex f q = rw (bent, below, f, q)
 
       -- outside it: two parts, weighted by the quadraticity, or the one part
       pub both-parts : inFirst P N ≡ false → lt zero quadraticity ≡ true →
-          sectionOf method period ≡ section.Combination (combination.new (made period («force_positive» && minFits P N)) (convexPart method period P N) quadraticity)
+          sectionOf method period ≡ section.Combination (combination.new (made period split («force_positive» && minFits P N)) (convexPart method period P N) quadraticity)
       unfolding sectionOf shaped mixed minKind
       both-parts f q = rw (bent, below, f, q)
 

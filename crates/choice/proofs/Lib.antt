@@ -3,3 +3,4 @@ pub mod Laws
 pub mod Answers
 pub mod Signs
 pub mod Ways
+pub mod Careful

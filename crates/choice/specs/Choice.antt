@@ -16,11 +16,11 @@ use Rattle.section.specs.ConvexMonotonePart as convex
 use Rattle.choice.specs.ConvexPart.{convexPart}
 
 module _ (method : ConvexMonotone) (period : Period) (P N : Float) where
-  open ConvexMonotone method using (quadraticity, «force_positive»)
+  open ConvexMonotone method using (quadraticity, «force_positive», split)
 
   -- step 3, the first region: with no quadratic part from step 2 it is made here
   unfoldable pub firstRegion : QuadraticPart
-  firstRegion = cond (lt zero quadraticity) (quadraticPart method period P N) (made period «force_positive»)
+  firstRegion = cond (lt zero quadraticity) (quadraticPart method period P N) (made period split «force_positive»)
 
   -- step 4 outside the first region: two parts, or the one
   unfoldable pub mixed : Section

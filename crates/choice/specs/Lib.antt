@@ -2,4 +2,5 @@ pub mod Choice
 pub mod QuadraticPart
 pub mod ConvexPart
 pub mod Regions
+pub mod Careful
 pub mod Steps

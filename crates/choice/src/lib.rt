@@ -43,11 +43,11 @@ fn shaped(method: ConvexMonotone, period: Period, g_prev: f64, g_next: f64) -> S
 {
     if method.quadraticity < 1.0 {
         if in_first(g_prev, g_next) {
-            return made_alone(period, first_kind(method, g_prev, g_next));
+            return made_alone(method, period, first_kind(method, g_prev, g_next));
         }
         return mixed(method, period, g_prev, g_next);
     }
-    made_alone(period, min_kind(method, g_prev, g_next))
+    made_alone(method, period, min_kind(method, g_prev, g_next))
 }
 
 // In the first region the quadratic part is all of the section. Step 2 has picked its kind, unless there was none to make: then

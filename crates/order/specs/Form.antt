@@ -5,6 +5,7 @@ use mathlib.Core.List.{List, [], _∷_, _++_}
 use lib.Dec.{eqb, leb}
 use lib.Ieee.{Float, binary64, ofBits}
 use lib.ListN.{length, getD}
+use Rattle.table.specs.Method.{new}
 use Rattle.table.specs.declared.method.ConvexMonotone.{ConvexMonotone}
 
 abbrev pub byteAt : List ℕ → ℕ → ℕ
@@ -54,8 +55,9 @@ module _ (o : List ℕ) where
   abbrev pub allow : Bool
   allow = bitOf (headerOf o) 0x2000_0000
 
+  -- the bytes have no place for a split and mean the original's
   abbrev pub method : ConvexMonotone
-  method = record { quadraticity = numberAt o 4; monotonicity = numberAt o 12; «force_positive» = bitOf (headerOf o) 0x8000_0000 }
+  method = new (numberAt o 4) (numberAt o 12) (bitOf (headerOf o) 0x8000_0000)
 
   abbrev pub knots : List Float
   knots = listOf points (λ i. numberAt o (20 + 8 * i))

@@ -6,6 +6,7 @@ use Rattle.table.proofs.check.table_verdict.Reads as table-verdict
 use Rattle.table.proofs.check.seam_too_long.Reads as seam-too-long
 use Rattle.table.proofs.check.room_verdict.Reads as room-verdict
 use Rattle.table.proofs.method.ConvexMonotone.new.Reads as convex-monotone-new
+use Rattle.table.proofs.method.ConvexMonotone.with_split.Reads as convex-monotone-with-split
 use Rattle.table.proofs.method.ConvexMonotone.defaults.Reads as convex-monotone-defaults
 
 pub knots-of-unique : OneAnswer knots-of.Post
@@ -22,6 +23,9 @@ room-verdict-unique κ a r₁ r₂ s t p q = p ∙ sym q
 
 pub convex-monotone-new-unique : OneAnswer convex-monotone-new.Post
 convex-monotone-new-unique κ a r₁ r₂ s t p q = p ∙ sym q
+
+pub convex-monotone-with-split-unique : OneAnswer convex-monotone-with-split.Post
+convex-monotone-with-split-unique κ a r₁ r₂ s t p q = p ∙ sym q
 
 pub convex-monotone-defaults-unique : OneAnswer convex-monotone-defaults.Post
 convex-monotone-defaults-unique κ a r₁ r₂ s t p q = p ∙ sym q

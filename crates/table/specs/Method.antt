@@ -1,11 +1,18 @@
--- 000, ConvexMonotone. 01, Queries, settings and growth: the defaults.
+-- 000, ConvexMonotone. 01, Queries, settings and growth: the defaults. 02, K3: the mode of the split is part of the settings.
 use mathlib.Core.Bool.{Bool, true}
 use lib.Ieee.{Float}
 use Rattle.numbers.specs.Words.{threeTenths, sevenTenths}
 use Rattle.table.specs.declared.method.ConvexMonotone.{ConvexMonotone}
+use Rattle.table.specs.declared.method.Split.{Split}
+use Rattle.table.specs.declared.method.Split.the-variants as split
 
 abbrev pub new : Float → Float → Bool → ConvexMonotone
-new q m positive = record { quadraticity = q; monotonicity = m; «force_positive» = positive }
+new q m positive = record { quadraticity = q; monotonicity = m; «force_positive» = positive; split = split.Original }
+
+-- the same settings in this mode
+abbrev pub withSplit : Split → ConvexMonotone → ConvexMonotone
+withSplit mode m =
+    record { quadraticity = m .quadraticity; monotonicity = m .monotonicity; «force_positive» = m .«force_positive»; split = mode }
 
 abbrev pub defaults : ConvexMonotone
 defaults = new threeTenths sevenTenths true

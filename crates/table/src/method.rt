@@ -1,11 +1,19 @@
 // The settings of the method, passed whole.
 ghost use mathlib.Core.Path.{_≡_};
-ghost use Rattle.table.specs.Method.{new, defaults};
+ghost use Rattle.table.specs.Method.{new, defaults, withSplit};
+
+// When positivity splits a parabola. The original does so wherever its two tests pass, also where the period then loses its average. The careful split
+// leaves such a parabola whole.
+pub enum Split {
+    Original,
+    Careful,
+}
 
 pub struct ConvexMonotone {
     pub quadraticity: f64,
     pub monotonicity: f64,
     pub force_positive: bool,
+    pub split: Split,
 }
 
 impl ConvexMonotone {
@@ -15,7 +23,7 @@ impl ConvexMonotone {
 
     pub const FORCE_POSITIVE: bool = true;
 
-    // Any numbers are taken here; a build refuses those outside [0, 1].
+    // Any numbers are taken here; a build refuses those outside [0, 1]. The split is the original's.
     pub fn new(quadraticity: f64, monotonicity: f64, force_positive: bool) -> Self
         ensures { λ r. ⌜ r ≡ new quadraticity monotonicity «force_positive» ⌝ }
     {
@@ -23,6 +31,19 @@ impl ConvexMonotone {
             quadraticity,
             monotonicity,
             force_positive,
+            split: Split::Original,
+        }
+    }
+
+    // The same settings with this split.
+    pub fn with_split(self, split: Split) -> Self
+        ensures { λ r. ⌜ r ≡ withSplit split self ⌝ }
+    {
+        Self {
+            quadraticity: self.quadraticity,
+            monotonicity: self.monotonicity,
+            force_positive: self.force_positive,
+            split,
         }
     }
 

@@ -7,6 +7,7 @@ use borrow.Author.Needs.{needs}
 use Rattle.section.specs.declared.section.Section.{Section}
 use Rattle.section.specs.QuadraticPart as quadratic
 use Rattle.table.specs.declared.method.ConvexMonotone.{ConvexMonotone}
+use Rattle.table.specs.declared.method.Split.{Split}
 use Rattle.choice.specs.declared.period.Period.{Period}
 use Rattle.choice.specs.QuadraticPart.{made, minKind}
 use Rattle.choice.specs.Steps.{firstKind}
@@ -15,14 +16,14 @@ use Rattle.choice.proofs.shaped.Statement.{statement}
 use Rattle.choice.proofs.shaped.Tie as tie
 
 -- one of two parts is the part of one of two kinds
-either-made : (period : Period) (b m n : Bool) → made period (cond b m n) ≡ cond b (made period m) (made period n)
-either-made period true m n = refl
-either-made period false m n = refl
+either-made : (period : Period) (mode : Split) (b m n : Bool) → made period mode (cond b m n) ≡ cond b (made period mode m) (made period mode n)
+either-made period mode true m n = refl
+either-made period mode false m n = refl
 
-first-made : (method : ConvexMonotone) (period : Period) (P N : Float) (k : Bool) (s : Section) → k ≡ firstKind method P N → s ≡ quadratic.alone (made period k) →
+first-made : (method : ConvexMonotone) (period : Period) (P N : Float) (k : Bool) (s : Section) → k ≡ firstKind method P N → s ≡ quadratic.alone (made period (method .split) k) →
     s ≡ quadratic.alone (firstRegion method period P N)
 unfolding firstKind firstRegion
-first-made method period P N k s e f = f ∙ ap (λ (j : Bool). quadratic.alone (made period j)) e ∙ ap quadratic.alone (either-made period (lt zero (method .quadraticity)) (minKind method P N) (method .«force_positive»))
+first-made method period P N k s e f = f ∙ ap (λ (j : Bool). quadratic.alone (made period (method .split) j)) e ∙ ap quadratic.alone (either-made period (method .split) (lt zero (method .quadraticity)) (minKind method P N) (method .«force_positive»))
 
 returns : tie.Need-returns
 unfolding shaped

@@ -4,19 +4,19 @@ use Rattle.choice.specs.QuadraticPart.{made}
 use Rattle.choice.proofs.quadratic_part.made.Statement.{statement}
 use Rattle.choice.proofs.quadratic_part.made.Tie as tie
 
-new-requires : tie.Need-new-requires
-new-requires c κs = search needs
+min-of-requires : tie.Need-min-of-requires
+min-of-requires c κs = search needs
 
 returns : tie.Need-returns
 unfolding made
-returns c = rw (c .before .if1 .taken, c .new .ensures)
+returns c = rw (c .before .if1 .taken, c .min-of .ensures)
 
-new-requires-2 : tie.Need-new-requires-2
-new-requires-2 c κs = search needs
+new-requires : tie.Need-new-requires
+new-requires c κs = search needs
 
 returns-2 : tie.Need-returns-2
 unfolding made
-returns-2 c = rw (c .before .if1 .left, c .new2 .ensures)
+returns-2 c = rw (c .before .if1 .left, c .new .ensures)
 
 pub made-spec : {M : Type 1} → statement M
-made-spec = tie.close (tie.spec new-requires returns new-requires-2 returns-2)
+made-spec = tie.close (tie.spec min-of-requires returns new-requires returns-2)
