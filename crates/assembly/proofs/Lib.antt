@@ -4,3 +4,4 @@ pub mod Rows
 pub mod Sizes
 pub mod Unique
 pub mod InNumbers
+pub mod Careful

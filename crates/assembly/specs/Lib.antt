@@ -1,3 +1,4 @@
 pub mod Sections
 pub mod Making
 pub mod Steps
+pub mod Careful

@@ -27,5 +27,5 @@ use Rattle.query.specs.Query.{walk, covering}
 use Rattle.figures.specs.Figures.{same, table, agree}
 
 pub figures : agree table ≡ true
-unfolding ofBits toBits add sub mul div neg le lt allBelow overlay finite abs root cm2.value cm4.value quadmin.splits quadmin.split quadmin.new quadmin.value section.value quadraticFrom otherFrom joined readSection quadraticSlots convexSlots slotsOf quadraticTag convexTag tagOf allFinite rising middleAt firstNode lastNode nodeAt totalAt nodes.second nodes.secondLast firstRegion mixed shaped sectionOf atMost atLeast fourth third convexPart part.second made minKind flat minFits inFirst inSecond inThird sectionAt tailOf curveOf walk covering same ne
+unfolding ofBits toBits add sub mul div neg le lt allBelow overlay finite abs root cm2.value cm4.value quadmin.splits quadmin.inPeriod quadmin.split quadmin.new quadmin.careful quadmin.value section.value quadraticFrom otherFrom joined readSection quadraticSlots convexSlots slotsOf quadraticTag convexTag tagOf allFinite rising middleAt firstNode lastNode nodeAt totalAt nodes.second nodes.secondLast firstRegion mixed shaped sectionOf atMost atLeast fourth third convexPart part.second made minKind flat minFits inFirst inSecond inThird sectionAt tailOf curveOf walk covering same ne
 figures = refl

@@ -1,4 +1,4 @@
--- 01, Figures to agree with: p1 to p10 in one table. A row has the figure's number, what the definitions give that the contracts cite, and what the document says;
+-- 01, Figures to agree with: p1 to p10 in one table, and 02, K3: careful p6. A row has the figure's number, what the definitions give that the contracts cite, and what the document says;
 -- floats by their bits.
 use Prim.Native.Nat as nat
 use Prim.Native.Nat.{ℕ, suc, _+_, _*_}
@@ -23,6 +23,8 @@ use Rattle.table.specs.declared.ends.End.the-variants as end
 use Rattle.table.specs.declared.ends.Seam.{Seam}
 use Rattle.table.specs.declared.ends.Seam.the-variants as seam
 use Rattle.table.specs.declared.method.ConvexMonotone.{ConvexMonotone}
+use Rattle.table.specs.declared.method.Split.{Split}
+use Rattle.table.specs.declared.method.Split.the-variants as split
 use Rattle.choice.specs.Choice.{sectionOf}
 use Rattle.curve.specs.Build.{buildVerdict, buildOutcome}
 use Rattle.curve.specs.Curve.{curveInNumbers, withExtrapolation}
@@ -132,6 +134,13 @@ same (suc n) a b = cond (eqb (bits (getD a n nan)) (bits (getD b n nan))) 1 0 + 
 abbrev fallsTo : Float → QuadraticMin
 fallsTo average = quadmin.new zero one four one average zero
 
+abbrev fallsCarefully : Float → QuadraticMin
+fallsCarefully average = quadmin.careful zero one four one average zero
+
+-- the settings at which p6 is chosen, in either mode
+abbrev m6 : Split → ConvexMonotone
+m6 mode = method.withSplit mode (method.new zero sevenTenths true)
+
 abbrev flag : Bool → ℕ
 flag b = cond b 1 0
 
@@ -169,6 +178,10 @@ table =
     ∷ row 6 (flag (fallsTo three .«split_region»)) 1
     ∷ row 6 (bits (fallsTo three .«x_ratio»)) 0x4008_0000_0000_0000
     ∷ row 6 (bits (quadmin.value (fallsTo three) threeQuarters)) 0x3ff9_0000_0000_0000
+    ∷ row 6 (flag (fallsCarefully three .«split_region»)) 0
+    ∷ row 6 (bits (quadmin.value (fallsCarefully three) threeQuarters)) 0x4002_8000_0000_0000
+    ∷ row 6 (bits (section.value (chosen (m6 split.Original) four one three) threeQuarters)) 0x3ff9_0000_0000_0000
+    ∷ row 6 (bits (section.value (chosen (m6 split.Careful) four one three) threeQuarters)) 0x4002_8000_0000_0000
     ∷ row 7 (tagOf (chosen (method.new zero sevenTenths false) one seven two)) 0x0300
     ∷ row 7 (slotOf (chosen (method.new zero sevenTenths false) one seven two) 18) 0x3fe0_0000_0000_0000
     ∷ row 7 (bits (section.value (chosen (method.new zero sevenTenths false) one seven two) threeQuarters)) 0x4004_0000_0000_0000
