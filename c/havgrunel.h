@@ -64,6 +64,13 @@ bool havgrunel_default_positivity(void);
  * Builds the curve of a table: knots that rise, and for each knot but the first the average of the period that ends there. The first average is
  * checked for finiteness and otherwise not read.
  *
+ * `quadraticity` is the share of a parabola in a section, `monotonicity` how monotone the rest is, and `positive` asks for prices that are not below
+ * zero. With it a section's parabola may be split into two arms with zero between them, and `careful` says when. Where it is false, the original's rule
+ * does, that of havgrunel_quadratic_min, and everything is as it was before there was this argument. Where it is true, that rule splits only where the
+ * ratio is above 0 and at most 1, so that a split section never is stretched beyond its period: this is the rule of havgrunel_quadratic_min_careful.
+ * `careful` changes no node, no total that a section starts from and no refusal; without `positive` it changes nothing. It means the same in every call
+ * that has it.
+ *
  * `hold` asks for a constant last period. With `seamed`, the node at `seam_count` is `seam_node`; without it the two are not read. Written are
  * the nodes, the tags and slots of the sections, the count of sections into sections[0], and into tail[0], tail[1], tail[2] the curve's tail, the three
  * numbers that answer from the last knot on: its value, the total where it starts, and where it starts.
@@ -73,7 +80,7 @@ bool havgrunel_default_positivity(void);
 uint8_t havgrunel_build(
     const double *knots, size_t knots_count,
     const double *averages, size_t averages_count,
-    double quadraticity, double monotonicity, bool positive,
+    double quadraticity, double monotonicity, bool positive, bool careful,
     bool hold,
     bool seamed, size_t seam_count, double seam_node,
     double *nodes, size_t nodes_count,
@@ -88,14 +95,14 @@ uint8_t havgrunel_build(
  * While there are localisation + 1 points the table stands alone. After that it goes on from the previous curve: `grown` says that there is one,
  * `previous_sections` is its count of sections, `previous_held` whether its last period was held (`hold` of the build, or for a grown curve whether
  * its points were not `final_size`), and its tags and slots are lent as they were written. The new curve goes into other buffers, as for
- * havgrunel_build.
+ * havgrunel_build. The previous curve may be one of either mode: nothing is taken over from it that `careful` changes.
  *
  * Past the first window refused by 9, then 15 for the previous curve; then in the order of a build.
  */
 uint8_t havgrunel_grow(
     const double *knots, size_t knots_count,
     const double *averages, size_t averages_count,
-    double quadraticity, double monotonicity, bool positive,
+    double quadraticity, double monotonicity, bool positive, bool careful,
     size_t localisation, size_t final_size,
     bool grown, size_t previous_sections, bool previous_held,
     const uint16_t *previous_tags, size_t previous_tags_count,
@@ -122,15 +129,16 @@ double havgrunel_inner_node(double before, double here, double after, double ave
  * same node there. answer[0] is the total after the sheet, where the next one starts; answer[1], answer[2], answer[3] are the curve's tail (value, total,
  * from), or three +0.0 where a right node is given.
  *
- * Sheets that are given the whole's nodes and totals leave the buffers that a build of the whole leaves, in whatever order they are built. A build's
- * total before knot i is a sum from the left, from +0.0 on, of each average times the length of its period.
+ * Sheets that are given the whole's nodes and totals leave the buffers that a build of the whole leaves, in whatever order they are built, if all have
+ * the settings of the whole, `careful` among them. A build's total before knot i is a sum from the left, from +0.0 on, of each average times the length
+ * of its period.
  *
  * Refused in the order 16, 1 to 7, 10, 11; an `answer` of fewer than 4 entries is an 11 as well.
  */
 uint8_t havgrunel_sheet(
     const double *knots, size_t knots_count,
     const double *averages, size_t averages_count,
-    double quadraticity, double monotonicity, bool positive,
+    double quadraticity, double monotonicity, bool positive, bool careful,
     bool left_given, double left_node,
     bool right_given, double right_node,
     double start, size_t place,
@@ -148,7 +156,7 @@ uint8_t havgrunel_sheet(
 uint8_t havgrunel_build_in_sheets(
     const double *knots, size_t knots_count,
     const double *averages, size_t averages_count,
-    double quadraticity, double monotonicity, bool positive,
+    double quadraticity, double monotonicity, bool positive, bool careful,
     const size_t *cuts, size_t cuts_count,
     double *nodes, size_t nodes_count,
     uint16_t *tags, size_t tags_count,
@@ -270,7 +278,22 @@ uint8_t havgrunel_quadratic(
     uint16_t *tag, size_t tag_count,
     double *slots, size_t slots_count);
 
+/*
+ * The parabola that may be split. In exact numbers av_root = (f_prev + f_next - sqrt(f_prev * f_next)) / 3 is the lower of the two averages at which a
+ * parabola with these ends touches zero, and the ratio is f_average / av_root. Split, the section is that touching parabola, ratio times as long as the
+ * period, its two arms at the ends of the period and zero between them.
+ *
+ * havgrunel_quadratic_min has the original's rule: split where the parabola has two zeros, in the period or outside it, and its ends are not of opposite
+ * signs. Where the ratio is above 1, the arms are longer than the period, and the section no longer holds its average. havgrunel_quadratic_min_careful
+ * splits where that rule does and the ratio is above 0 and at most 1, so that a split section never is stretched beyond its period. A ratio that is
+ * infinite or not a number does not split. Where both split, and where neither does, the record is the same.
+ */
 uint8_t havgrunel_quadratic_min(
+    double x_prev, double x_next, double f_prev, double f_next, double f_average, double prev_primitive,
+    uint16_t *tag, size_t tag_count,
+    double *slots, size_t slots_count);
+
+uint8_t havgrunel_quadratic_min_careful(
     double x_prev, double x_next, double f_prev, double f_next, double f_average, double prev_primitive,
     uint16_t *tag, size_t tag_count,
     double *slots, size_t slots_count);

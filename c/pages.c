@@ -72,7 +72,7 @@ static uint8_t build(void)
 {
     size_t sections[1];
     double tail[3];
-    return havgrunel_build(knots, points, averages, points, 0.3, 0.7, true, false, false, 0, 0.0, NULL, 0, NULL, 0, NULL, 0, sections, 1, tail, 3);
+    return havgrunel_build(knots, points, averages, points, 0.3, 0.7, true, false, false, false, 0, 0.0, NULL, 0, NULL, 0, NULL, 0, sections, 1, tail, 3);
 }
 
 static uint8_t value(void)

@@ -76,13 +76,14 @@ struct table {
     double quadraticity;
     double monotonicity;
     bool positive;
+    bool careful;
 };
 
 static uint8_t build_in(const struct table *t, bool hold, bool seamed, size_t count, double node, size_t nodes, size_t tags, size_t slots,
     size_t sections, size_t tail, struct curve *c)
 {
-    return havgrunel_build(t->knots, t->knots_count, t->averages, t->averages_count, t->quadraticity, t->monotonicity, t->positive, hold, seamed,
-        count, node, c->nodes, nodes, c->tags, tags, c->slots, slots, c->sections, sections, c->tail, tail);
+    return havgrunel_build(t->knots, t->knots_count, t->averages, t->averages_count, t->quadraticity, t->monotonicity, t->positive, t->careful, hold,
+        seamed, count, node, c->nodes, nodes, c->tags, tags, c->slots, slots, c->sections, sections, c->tail, tail);
 }
 
 static uint8_t build(const struct table *t, bool hold, struct curve *c)
@@ -130,7 +131,7 @@ static void two_points(void)
 {
     const double knots[] = {0.0, 2.0};
     const double averages[] = {9.0, 2.0};
-    const struct table t = {knots, 2, averages, 2, 0.0, 0.0, false};
+    const struct table t = {knots, 2, averages, 2, 0.0, 0.0, false, false};
     struct curve c;
     CHECK(build(&t, false, &c) == 0);
     CHECK(c.sections[0] == 1);
@@ -144,7 +145,7 @@ static void two_points(void)
 
 static const double three_knots[] = {0.0, 1.0, 2.0};
 static const double three_averages[] = {0.0, 1.0, 3.0};
-static const struct table three = {three_knots, 3, three_averages, 3, 0.0, 1.0, false};
+static const struct table three = {three_knots, 3, three_averages, 3, 0.0, 1.0, false, false};
 
 static void three_points(void)
 {
@@ -256,7 +257,7 @@ static void refused_tables(void)
     }
     for (size_t i = 0; i < many; i++)
         days[i] = (double)i;
-    t = (struct table){days, many, days, many, 0.3, 0.7, true};
+    t = (struct table){days, many, days, many, 0.3, 0.7, true, false};
     CHECK(build(&t, false, &c) == HAVGRUNEL_TOO_MANY_POINTS && untouched(&c));
     free(days);
 }
@@ -377,6 +378,17 @@ static void kinds(void)
     CHECK(same(value_of(tag, s, 0.25), 0.25) && same(value_of(tag, s, 0.5), 0.0) && same(value_of(tag, s, 1.0), 1.0));
     CHECK(havgrunel_quadratic_min(0.0, 1.0, 4.0, 1.0, 3.0, 0.0, &tag, 1, s, 24) == 0 && same(s[12], 3.0) && same(value_of(tag, s, 0.75), 1.5625));
 
+    /* the same three by the careful rule: split at a ratio of 0.5, and left whole at 3, where the average is then kept, and at 0 */
+    uint16_t min_tag = 0;
+    double min[HAVGRUNEL_SLOTS];
+    CHECK(havgrunel_quadratic_min(0.0, 1.0, 4.0, 1.0, 0.5, 0.0, &min_tag, 1, min, 24) == 0);
+    CHECK(havgrunel_quadratic_min_careful(0.0, 1.0, 4.0, 1.0, 0.5, 0.0, &tag, 1, s, 24) == 0 && tag == min_tag && memcmp(s, min, sizeof s) == 0);
+    CHECK(havgrunel_quadratic_min_careful(0.0, 1.0, 4.0, 1.0, 3.0, 0.0, &tag, 1, s, 24) == 0 && tag == 0x4000 && same(s[12], 1.0));
+    CHECK(same(value_of(tag, s, 0.75), 2.3125) && section_is(tag, s, 1.0, 1.0, 3.0, 1.0));
+    CHECK(havgrunel_quadratic_min(0.0, 1.0, 4.0, 1.0, 0.0, 0.0, &min_tag, 1, min, 24) == 0 && min_tag == 0x5000 && same(min[12], 0.0));
+    CHECK(havgrunel_quadratic_min_careful(0.0, 1.0, 4.0, 1.0, 0.0, 0.0, &tag, 1, s, 24) == 0 && tag == 0x4000 && same(s[12], 1.0));
+    CHECK(havgrunel_quadratic_min_careful(0.0, 1.0, 4.0, 1.0, 3.0, 0.0, &tag, 1, s, 23) == HAVGRUNEL_BUFFER_TOO_SHORT && tag == 0x4000);
+
     /* a combination from two records: a quarter of the one and the rest of the other */
     uint16_t other_tag = 0;
     double other[HAVGRUNEL_SLOTS];
@@ -401,16 +413,16 @@ static uint8_t grow(const struct table *t, size_t localisation, size_t final_siz
     struct curve *c)
 {
     fill(c);
-    return havgrunel_grow(t->knots, t->knots_count, t->averages, t->averages_count, t->quadraticity, t->monotonicity, t->positive, localisation,
-        final_size, grown, sections, held, from->tags, TAGS, from->slots, SLOTS, c->nodes, NODES, c->tags, TAGS, c->slots, SLOTS, c->sections, 2,
-        c->tail, 4);
+    return havgrunel_grow(t->knots, t->knots_count, t->averages, t->averages_count, t->quadraticity, t->monotonicity, t->positive, t->careful,
+        localisation, final_size, grown, sections, held, from->tags, TAGS, from->slots, SLOTS, c->nodes, NODES, c->tags, TAGS, c->slots, SLOTS,
+        c->sections, 2, c->tail, 4);
 }
 
 static void growth(void)
 {
     const double knots[] = {0.0, 1.0, 2.5, 3.0, 5.0};
     const double averages[] = {0.0, 1.0, 3.0, 2.0, 2.5};
-    struct table t = {knots, 3, averages, 3, havgrunel_default_quadraticity(), havgrunel_default_monotonicity(), havgrunel_default_positivity()};
+    struct table t = {knots, 3, averages, 3, havgrunel_default_quadraticity(), havgrunel_default_monotonicity(), havgrunel_default_positivity(), false};
     struct curve first;
     struct curve second;
     struct curve whole;
@@ -454,10 +466,10 @@ static void growth(void)
     /* answers without room come last */
     t.averages_count = 4;
     fill(&first);
-    CHECK(havgrunel_grow(knots, 4, averages, 4, 0.3, 0.7, true, 2, 5, true, 1, false, second.tags, TAGS, second.slots, SLOTS, first.nodes, NODES,
+    CHECK(havgrunel_grow(knots, 4, averages, 4, 0.3, 0.7, true, false, 2, 5, true, 1, false, second.tags, TAGS, second.slots, SLOTS, first.nodes, NODES,
               first.tags, TAGS, first.slots, SLOTS, first.sections, 0, first.tail, 4)
         == HAVGRUNEL_BUFFER_TOO_SHORT);
-    CHECK(havgrunel_grow(knots, 4, averages, 4, 0.3, 0.7, true, 2, 5, false, 1, false, second.tags, TAGS, second.slots, SLOTS, first.nodes, NODES,
+    CHECK(havgrunel_grow(knots, 4, averages, 4, 0.3, 0.7, true, true, 2, 5, false, 1, false, second.tags, TAGS, second.slots, SLOTS, first.nodes, NODES,
               first.tags, TAGS, first.slots, SLOTS, first.sections, 1, first.tail, 2)
         == HAVGRUNEL_NO_PREVIOUS_CURVE);
     CHECK(untouched(&first));
@@ -476,8 +488,8 @@ struct handed {
 static uint8_t sheet_in(const struct table *t, size_t from, size_t points, struct handed h, size_t nodes, size_t tags, size_t slots, size_t entries,
     struct curve *c, double *answer)
 {
-    return havgrunel_sheet(t->knots + from, points, t->averages + from, points, t->quadraticity, t->monotonicity, t->positive, h.left_given, h.left,
-        h.right_given, h.right, h.start, h.place, c->nodes, nodes, c->tags, tags, c->slots, slots, answer, entries);
+    return havgrunel_sheet(t->knots + from, points, t->averages + from, points, t->quadraticity, t->monotonicity, t->positive, t->careful,
+        h.left_given, h.left, h.right_given, h.right, h.start, h.place, c->nodes, nodes, c->tags, tags, c->slots, slots, answer, entries);
 }
 
 static uint8_t sheet(const struct table *t, size_t from, size_t points, struct handed h, struct curve *c, double *answer)
@@ -488,8 +500,8 @@ static uint8_t sheet(const struct table *t, size_t from, size_t points, struct h
 static uint8_t build_cut(const struct table *t, const size_t *cuts, size_t count, size_t sections, size_t tail, struct curve *c)
 {
     fill(c);
-    return havgrunel_build_in_sheets(t->knots, t->knots_count, t->averages, t->averages_count, t->quadraticity, t->monotonicity, t->positive, cuts,
-        count, c->nodes, NODES, c->tags, TAGS, c->slots, SLOTS, c->sections, sections, c->tail, tail);
+    return havgrunel_build_in_sheets(t->knots, t->knots_count, t->averages, t->averages_count, t->quadraticity, t->monotonicity, t->positive, t->careful,
+        cuts, count, c->nodes, NODES, c->tags, TAGS, c->slots, SLOTS, c->sections, sections, c->tail, tail);
 }
 
 /* The nodes, tags and slots of two curves, to the last entry that was lent. */
@@ -568,6 +580,69 @@ static void sheets(void)
     CHECK(build_cut(&three, cuts, 1, 1, 2, &c) == HAVGRUNEL_BUFFER_TOO_SHORT && untouched(&c));
 }
 
+/* What section `number` of a curve over these unit months holds of its month. */
+static double held(const struct curve *c, size_t number)
+{
+    const double *const slots = c->slots + HAVGRUNEL_SLOTS * number;
+    double a[3] = {-1.0, -1.0, -1.0};
+    double b[3] = {-1.0, -1.0, -1.0};
+    CHECK(havgrunel_section(c->tags[number], slots, HAVGRUNEL_SLOTS, (double)number, a, 3) == 0);
+    CHECK(havgrunel_section(c->tags[number], slots, HAVGRUNEL_SLOTS, (double)number + 1.0, b, 3) == 0);
+    return b[1] - a[1];
+}
+
+/* Falling months at quadraticity 0 with positivity: by the original's rule two are split and lose their averages, by the careful one none. */
+static void falling_months(void)
+{
+    const double knots[] = {0.0, 1.0, 2.0, 3.0};
+    const double averages[] = {0.0, 5.0, 3.0, 1.0};
+    struct table t = {knots, 4, averages, 4, 0.0, 0.7, true, false};
+    struct curve original;
+    struct curve careful;
+    struct curve c;
+    CHECK(build(&t, false, &original) == 0 && rest_untouched(&original, 4));
+    t.careful = true;
+    CHECK(build(&t, false, &careful) == 0 && rest_untouched(&careful, 4));
+    CHECK(original.tags[0] == 0x5000 && original.tags[1] == 0x5000 && original.tags[2] == 0x4000);
+    CHECK(careful.tags[0] == 0x4000 && careful.tags[1] == 0x4000 && careful.tags[2] == 0x4000);
+    CHECK(held(&original, 0) < 4.0 && held(&original, 1) < 2.5 && same(held(&original, 2), 1.0));
+    CHECK(same(held(&careful, 0), 5.0) && same(held(&careful, 1), 3.0) && same(held(&careful, 2), 1.0));
+    CHECK(answers(&t, &careful, false, 1.5, 3.0, 6.75));
+
+    /* the mode moves no node and no tail here, and what neither splits is the same record */
+    CHECK(memcmp(original.nodes, careful.nodes, sizeof careful.nodes) == 0 && memcmp(original.tail, careful.tail, sizeof careful.tail) == 0);
+    CHECK(memcmp(original.slots + 2 * HAVGRUNEL_SLOTS, careful.slots + 2 * HAVGRUNEL_SLOTS, HAVGRUNEL_SLOTS * sizeof *careful.slots) == 0);
+
+    /* without positivity it says nothing */
+    t.positive = false;
+    CHECK(build(&t, false, &original) == 0);
+    t.careful = false;
+    CHECK(build(&t, false, &c) == 0 && memcmp(&c, &original, sizeof c) == 0);
+    t.positive = t.careful = true;
+
+    /* sheets of the careful mode are its whole, at once and one by one */
+    const size_t cuts[] = {1, 2};
+    CHECK(build_cut(&t, cuts, 2, 2, 4, &c) == 0 && memcmp(&c, &careful, sizeof c) == 0);
+    const struct handed right = {true, careful.nodes[1], false, NAN, 5.0, 1};
+    const struct handed left = {false, NAN, true, careful.nodes[1], 0.0, 0};
+    double answer[5] = {-1.0, -1.0, -1.0, -1.0, -1.0};
+    fill(&c);
+    CHECK(sheet(&t, 1, 3, right, &c, answer) == 0 && answer_is(answer, 9.0, careful.tail[0], 9.0, 3.0));
+    CHECK(sheet(&t, 0, 2, left, &c, answer) == 0 && same_buffers(&c, &careful));
+
+    /* growth goes on in the mode that it is asked for, from a curve of either */
+    struct curve first;
+    t.knots_count = t.averages_count = 3;
+    for (int mode = 0; mode < 2; mode++) {
+        t.careful = mode == 1;
+        CHECK(grow(&t, 2, 4, false, 0, false, &c, &first) == 0 && first.tags[0] == (mode == 1 ? 0x4000 : 0x5000));
+        t.knots_count = t.averages_count = 4;
+        t.careful = true;
+        CHECK(grow(&t, 2, 4, true, first.sections[0], true, &first, &c) == 0 && memcmp(&c, &careful, sizeof c) == 0);
+        t.knots_count = t.averages_count = 3;
+    }
+}
+
 static void defaults(void)
 {
     CHECK(same(havgrunel_default_quadraticity(), 0.3));
@@ -597,6 +672,7 @@ int main(void)
     kinds();
     growth();
     sheets();
+    falling_months();
     if (failures != 0) {
         fprintf(stderr, "c: %d of %d checks don't hold\n", failures, checks);
         return 1;

@@ -10,17 +10,17 @@ use Rattle.export_build.proofs.in_sheets.havgrunel_build_in_sheets.Read
 use Rattle.export_build.proofs.one_sheet.havgrunel_inner_node.Reads as havgrunel-inner-node
 use Rattle.export_build.proofs.one_sheet.havgrunel_sheet.Reads as havgrunel-sheet
 
-pub havgrunel-build-unique : OneOutcome havgrunel-build.Post (λ κ r s. let (_, (_, (_, (_, (_, (_, (_, (_, (_, (nodes, (tags, (slots, (sections, (tail, _)))))))))))))) = s in across r (now nodes) (now tags) (now slots) (now sections) (now tail))
+pub havgrunel-build-unique : OneOutcome havgrunel-build.Post (λ κ r s. let (_, (_, (_, (_, (_, (_, (_, (_, (_, (_, (nodes, (tags, (slots, (sections, (tail, _))))))))))))))) = s in across r (now nodes) (now tags) (now slots) (now sections) (now tail))
 havgrunel-build-unique κ a r₁ r₂ s t p q = p ∙ sym q
 
-pub havgrunel-grow-unique : OneOutcome havgrunel-grow.Post (λ κ r s. let (_, (_, (_, (_, (_, (_, (_, (_, (_, (_, (_, (_, (nodes, (tags, (slots, (sections, (tail, _))))))))))))))))) = s in across r (now nodes) (now tags) (now slots) (now sections) (now tail))
+pub havgrunel-grow-unique : OneOutcome havgrunel-grow.Post (λ κ r s. let (_, (_, (_, (_, (_, (_, (_, (_, (_, (_, (_, (_, (_, (nodes, (tags, (slots, (sections, (tail, _)))))))))))))))))) = s in across r (now nodes) (now tags) (now slots) (now sections) (now tail))
 havgrunel-grow-unique κ a r₁ r₂ s t p q = p ∙ sym q
 
-pub havgrunel-build-in-sheets-unique : OneOutcome havgrunel-build-in-sheets.Post (λ κ r s. let (_, (_, (_, (_, (_, (_, (nodes, (tags, (slots, (sections, (tail, _))))))))))) = s in across r (now nodes) (now tags) (now slots) (now sections) (now tail))
+pub havgrunel-build-in-sheets-unique : OneOutcome havgrunel-build-in-sheets.Post (λ κ r s. let (_, (_, (_, (_, (_, (_, (_, (nodes, (tags, (slots, (sections, (tail, _)))))))))))) = s in across r (now nodes) (now tags) (now slots) (now sections) (now tail))
 havgrunel-build-in-sheets-unique κ a r₁ r₂ s t p q = p ∙ sym q
 
 pub havgrunel-inner-node-unique : OneAnswer havgrunel-inner-node.Post
 havgrunel-inner-node-unique κ a r₁ r₂ s t p q = p ∙ sym q
 
-pub havgrunel-sheet-unique : OneOutcome havgrunel-sheet.Post (λ κ r s. let (_, (_, (_, (_, (_, (_, (_, (_, (_, (_, (_, (nodes, (tags, (slots, (answer, _))))))))))))))) = s in one-sheet.across r (now nodes) (now tags) (now slots) (now answer))
+pub havgrunel-sheet-unique : OneOutcome havgrunel-sheet.Post (λ κ r s. let (_, (_, (_, (_, (_, (_, (_, (_, (_, (_, (_, (_, (nodes, (tags, (slots, (answer, _)))))))))))))))) = s in one-sheet.across r (now nodes) (now tags) (now slots) (now answer))
 havgrunel-sheet-unique κ a r₁ r₂ s t p q = p ∙ sym q

@@ -1,4 +1,5 @@
 pub mod Building
 pub mod Growing
 pub mod OneSheet
+pub mod Settings
 pub mod Steps

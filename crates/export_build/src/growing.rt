@@ -2,6 +2,7 @@
 use crate::building::last_refusal;
 use crate::building::no_answer;
 use crate::building::write_answer;
+use crate::settings::method_of;
 use assembly::sections::Tail;
 use curve::build::build_verdict;
 use curve::curve::Curve;
@@ -14,11 +15,11 @@ ghost use mathlib.Core.Path.{_≡_};
 ghost use lib.ListN.{length};
 ghost use Rattle.refusal.specs.Refusal.{first};
 ghost use Rattle.table.specs.Buffers.{buffers};
-ghost use Rattle.table.specs.Method.{new};
 ghost use Rattle.curve.specs.Build.{buildTests};
 ghost use Rattle.growth.specs.Growth.{carriedAt, growOutcome};
 ghost use Rattle.export_build.specs.Building.{across, curveAcross};
 ghost use Rattle.export_build.specs.Growing.{previousOf};
+ghost use Rattle.export_build.specs.Settings.{methodOf};
 ghost use Rattle.export_build.specs.Steps.{lastGrowth};
 
 // What growth reads of the previous curve beside its records. It asks for no price, so the tail is not needed.
@@ -79,6 +80,7 @@ pub extern "C" fn havgrunel_grow(
     quadraticity: f64,
     monotonicity: f64,
     positive: bool,
+    careful: bool,
     localisation: usize,
     final_size: usize,
     grown: bool,
@@ -92,9 +94,9 @@ pub extern "C" fn havgrunel_grow(
     sections: &mut [usize],
     tail: &mut [f64],
 ) -> u8
-    ensures { λ r. ⌜ across r (now (nodes .exit)) (now (tags .exit)) (now (slots .exit)) (now (sections .exit)) (now (tail .exit)) ≡ curveAcross (buffers (now (nodes .entry)) (now (tags .entry)) (now (slots .entry))) (now (sections .entry)) (now (tail .entry)) (growOutcome (now (knots .entry)) (now (averages .entry)) (new quadraticity monotonicity positive) localisation «final_size» (previousOf grown «previous_sections» «previous_held») (now («previous_tags» .entry)) (now («previous_slots» .entry)) (buffers (now (nodes .entry)) (now (tags .entry)) (now (slots .entry)))) ⌝ }
+    ensures { λ r. ⌜ across r (now (nodes .exit)) (now (tags .exit)) (now (slots .exit)) (now (sections .exit)) (now (tail .exit)) ≡ curveAcross (buffers (now (nodes .entry)) (now (tags .entry)) (now (slots .entry))) (now (sections .entry)) (now (tail .entry)) (growOutcome (now (knots .entry)) (now (averages .entry)) (methodOf quadraticity monotonicity positive careful) localisation «final_size» (previousOf grown «previous_sections» «previous_held») (now («previous_tags» .entry)) (now («previous_slots» .entry)) (buffers (now (nodes .entry)) (now (tags .entry)) (now (slots .entry)))) ⌝ }
 {
-    let method = ConvexMonotone::new(quadraticity, monotonicity, positive);
+    let method = method_of(quadraticity, monotonicity, positive, careful);
     let previous = previous_of(grown, previous_sections, previous_held);
     if no_answer(sections.len(), tail.len()) {
         return refusal_of(

@@ -2,6 +2,7 @@
 use crate::building::last_refusal;
 use crate::building::no_answer;
 use crate::building::write_answer;
+use crate::settings::method_of;
 use curve::build::build_verdict;
 use refusal::Refusal;
 use sheets::pieces::build_in_sheets;
@@ -12,11 +13,11 @@ ghost use mathlib.Core.Path.{_≡_};
 ghost use lib.ListN.{length};
 ghost use Rattle.refusal.specs.Refusal.{first};
 ghost use Rattle.table.specs.Buffers.{buffers};
-ghost use Rattle.table.specs.Method.{new};
 ghost use Rattle.curve.specs.Build.{buildTests};
 ghost use Rattle.sheets.specs.Cuts.{cutsFit};
 ghost use Rattle.sheets.specs.InSheets.{inSheetsOutcome};
 ghost use Rattle.export_build.specs.Building.{across, curveAcross};
+ghost use Rattle.export_build.specs.Settings.{methodOf};
 ghost use Rattle.export_build.specs.Steps.{lastCut};
 
 // The first refusal of a table in sheets for buffers of these lengths, where its answers have no room.
@@ -46,6 +47,7 @@ pub extern "C" fn havgrunel_build_in_sheets(
     quadraticity: f64,
     monotonicity: f64,
     positive: bool,
+    careful: bool,
     cuts: &[usize],
     nodes: &mut [f64],
     tags: &mut [u16],
@@ -53,9 +55,9 @@ pub extern "C" fn havgrunel_build_in_sheets(
     sections: &mut [usize],
     tail: &mut [f64],
 ) -> u8
-    ensures { λ r. ⌜ across r (now (nodes .exit)) (now (tags .exit)) (now (slots .exit)) (now (sections .exit)) (now (tail .exit)) ≡ curveAcross (buffers (now (nodes .entry)) (now (tags .entry)) (now (slots .entry))) (now (sections .entry)) (now (tail .entry)) (inSheetsOutcome (now (knots .entry)) (now (averages .entry)) (new quadraticity monotonicity positive) (now (cuts .entry)) (buffers (now (nodes .entry)) (now (tags .entry)) (now (slots .entry)))) ⌝ }
+    ensures { λ r. ⌜ across r (now (nodes .exit)) (now (tags .exit)) (now (slots .exit)) (now (sections .exit)) (now (tail .exit)) ≡ curveAcross (buffers (now (nodes .entry)) (now (tags .entry)) (now (slots .entry))) (now (sections .entry)) (now (tail .entry)) (inSheetsOutcome (now (knots .entry)) (now (averages .entry)) (methodOf quadraticity monotonicity positive careful) (now (cuts .entry)) (buffers (now (nodes .entry)) (now (tags .entry)) (now (slots .entry)))) ⌝ }
 {
-    let method = ConvexMonotone::new(quadraticity, monotonicity, positive);
+    let method = method_of(quadraticity, monotonicity, positive, careful);
     if no_answer(sections.len(), tail.len()) {
         return cut_refusal(
             knots,

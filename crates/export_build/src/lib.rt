@@ -6,3 +6,4 @@ pub mod building;
 pub mod growing;
 pub mod in_sheets;
 pub mod one_sheet;
+mod settings;

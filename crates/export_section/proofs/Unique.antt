@@ -11,6 +11,7 @@ use Rattle.export_section.proofs.kinds.havgrunel_convex_monotone4.Reads
 use Rattle.export_section.proofs.kinds.havgrunel_convex_monotone4_min.Reads as havgrunel-convex-monotone4-min
 use Rattle.export_section.proofs.kinds.havgrunel_quadratic.Reads as havgrunel-quadratic
 use Rattle.export_section.proofs.kinds.havgrunel_quadratic_min.Reads as havgrunel-quadratic-min
+use Rattle.export_section.proofs.kinds.havgrunel_quadratic_min_careful.Reads as havgrunel-quadratic-min-careful
 use Rattle.export_section.proofs.records.havgrunel_record.Reads as havgrunel-record
 use Rattle.export_section.proofs.records.havgrunel_section.Reads as havgrunel-section
 
@@ -37,6 +38,9 @@ havgrunel-quadratic-unique κ a r₁ r₂ s t p q = p ∙ sym q
 
 pub havgrunel-quadratic-min-unique : OneOutcome havgrunel-quadratic-min.Post (λ κ r s. let (_, (_, (_, (_, (_, (_, (tag, (slots, _)))))))) = s in across r (now tag) (now slots))
 havgrunel-quadratic-min-unique κ a r₁ r₂ s t p q = p ∙ sym q
+
+pub havgrunel-quadratic-min-careful-unique : OneOutcome havgrunel-quadratic-min-careful.Post (λ κ r s. let (_, (_, (_, (_, (_, (_, (tag, (slots, _)))))))) = s in across r (now tag) (now slots))
+havgrunel-quadratic-min-careful-unique κ a r₁ r₂ s t p q = p ∙ sym q
 
 pub havgrunel-record-unique : OneOutcome havgrunel-record.Post (λ κ r s. let (_, (_, (_, (into, _)))) = s in pair r (now into))
 havgrunel-record-unique κ a r₁ r₂ s t p q = p ∙ sym q

@@ -1,4 +1,4 @@
--- 000, the kinds' `new`; 01, Buffers and section records: a single section, and its record in a lent tag and lent slots
+-- 000, the kinds' `new`; 02, K3, the careful one of QuadraticMin; 01, Buffers and section records: a single section, and its record in a lent tag and lent slots
 use Prim.Native.Nat.{ℕ}
 use mathlib.Core.Bool.{Bool, cond, _||_}
 use mathlib.Core.List.{List}
@@ -63,3 +63,6 @@ quadratic «x_prev» «x_next» «f_prev» «f_next» «f_average» «prev_primi
 
 abbrev pub quadraticMin : Float → Float → Float → Float → Float → Float → Section
 quadraticMin «x_prev» «x_next» «f_prev» «f_next» «f_average» «prev_primitive» = section.QuadraticMin (QuadraticMin.new «x_prev» «x_next» «f_prev» «f_next» «f_average» «prev_primitive»)
+
+abbrev pub quadraticMinCareful : Float → Float → Float → Float → Float → Float → Section
+quadraticMinCareful «x_prev» «x_next» «f_prev» «f_next» «f_average» «prev_primitive» = section.QuadraticMin (QuadraticMin.careful «x_prev» «x_next» «f_prev» «f_next» «f_average» «prev_primitive»)

@@ -14,7 +14,7 @@ use section::constant_grad::ConstantGrad;
 use section::everywhere_constant::EverywhereConstant;
 use section::section::Section;
 ghost use mathlib.Core.Path.{_≡_};
-ghost use Rattle.export_section.specs.Kinds.{across, sectionAcross, constant, gradient, second, third, fourth, fourthMin, quadratic, quadraticMin};
+ghost use Rattle.export_section.specs.Kinds.{across, sectionAcross, constant, gradient, second, third, fourth, fourthMin, quadratic, quadraticMin, quadraticMinCareful};
 
 // Writes a section: its tag into the first entry of `tag`, its fields into the first entries of `slots`.
 fn put(section: Section, tag: &mut [u16], slots: &mut [f64]) -> u8
@@ -190,7 +190,7 @@ pub extern "C" fn havgrunel_quadratic(
     put(Section::Quadratic(section), tag, slots)
 }
 
-// The same, shortened and split where it would fall below zero.
+// The same, shortened and split where both tests of the original's rule pass.
 #[no_mangle]
 pub extern "C" fn havgrunel_quadratic_min(
     x_prev: f64,
@@ -205,5 +205,23 @@ pub extern "C" fn havgrunel_quadratic_min(
     ensures { λ r. ⌜ across r (now (tag .exit)) (now (slots .exit)) ≡ sectionAcross (quadraticMin «x_prev» «x_next» «f_prev» «f_next» «f_average» «prev_primitive») (now (tag .entry)) (now (slots .entry)) ⌝ }
 {
     let section = QuadraticMin::new(x_prev, x_next, f_prev, f_next, f_average, prev_primitive);
+    put(Section::QuadraticMin(section), tag, slots)
+}
+
+// The same, split only where its ratio is above 0 and at most 1, too.
+#[no_mangle]
+pub extern "C" fn havgrunel_quadratic_min_careful(
+    x_prev: f64,
+    x_next: f64,
+    f_prev: f64,
+    f_next: f64,
+    f_average: f64,
+    prev_primitive: f64,
+    tag: &mut [u16],
+    slots: &mut [f64],
+) -> u8
+    ensures { λ r. ⌜ across r (now (tag .exit)) (now (slots .exit)) ≡ sectionAcross (quadraticMinCareful «x_prev» «x_next» «f_prev» «f_next» «f_average» «prev_primitive») (now (tag .entry)) (now (slots .entry)) ⌝ }
+{
+    let section = QuadraticMin::careful(x_prev, x_next, f_prev, f_next, f_average, prev_primitive);
     put(Section::QuadraticMin(section), tag, slots)
 }

@@ -18,6 +18,9 @@
 //! A long table may be built in sheets, and gives the very same curve: see [`ConvexMonotone::interpolate_in_sheets`] and
 //! [`ConvexMonotone::sheet`].
 //!
+//! Where prices are held above zero, [`Split`] says when a period may get a stretch of zero: by the original's rule, or only
+//! where the period then keeps its average.
+//!
 //! [`ConvexMonotone`] and [`ConvexMonotoneInterpolation`] have the names and methods of the module that this library takes the place
 //! of, and so have the traits. [`lent`] has the same calls over the caller's own buffers, with nothing allocated. [`Record`]
 //! is one section of a curve by itself.
@@ -37,7 +40,7 @@ mod traits;
 
 pub use curve::ConvexMonotoneInterpolation;
 pub use lent::Tail;
-pub use method::ConvexMonotone;
+pub use method::{ConvexMonotone, Split};
 pub use record::{Answers, Record};
 pub use refusal::Refusal;
 pub use traits::{Interpolation, Interpolator, LocalInterpolator};

@@ -3,23 +3,71 @@
 use crate::lent::{self, Buffers, Sheet, SheetEnd};
 use crate::{ConvexMonotoneInterpolation, Refusal, ffi};
 
+/// When a parabola is split, where prices are held above zero. Split, a period has two arms of a parabola that touches zero, and a
+/// stretch of zero between them: so a month that is very cheap beside its neighbours stays at zero instead of falling below it.
+///
+/// The two differ in periods whose parabola stays above zero unsplit, which mostly fall or rise steadily at quadraticity 0, and in
+/// periods that average zero or less. They agree in every node and refusal. Without positivity nothing is split, and they are the
+/// same.
+#[derive(Clone, Copy, Debug, PartialEq, Eq, Default)]
+pub enum Split {
+    /// The rule of the original, bit for bit. Its test is not exact: it also splits periods that stay well above zero, and these then
+    /// hold less than they traded at.
+    #[default]
+    Original,
+    /// Only where the original splits and the two arms together are no longer than the period, so that a split parabola keeps the
+    /// period's average but for rounding. How long they are is a ratio, of the average to the one at which a parabola with the same
+    /// ends touches zero: it must be above 0 and at most 1.
+    Careful,
+}
+
 /// The method with its settings: how much of each section is a parabola, how monotone the rest is, and whether prices are held
-/// above zero. Any numbers are taken; building a curve refuses those outside 0 to 1.
+/// above zero; and by [`with_split`](ConvexMonotone::with_split) how that is done. Any numbers are taken; building a curve refuses
+/// those outside 0 to 1.
 #[derive(Clone, Copy, Debug, PartialEq)]
 pub struct ConvexMonotone {
     pub(crate) quadraticity: f64,
     pub(crate) monotonicity: f64,
     pub(crate) force_positive: bool,
+    pub(crate) split: Split,
 }
 
 impl ConvexMonotone {
-    /// The method with these settings.
+    /// The method with these settings, which splits as the original does.
     pub fn new(quadraticity: f64, monotonicity: f64, force_positive: bool) -> Self {
         ConvexMonotone {
             quadraticity,
             monotonicity,
             force_positive,
+            split: Split::Original,
         }
+    }
+
+    /// The same settings, splitting by this rule. Curves of both rules are asked alike, and a curve may grow from one of the other
+    /// rule; but sheets of one table must all have the same.
+    ///
+    /// Three falling months, of which the second traded at 3. By the original's rule it is split, although it goes from 4 to 2, and
+    /// holds too little:
+    ///
+    /// ```
+    /// use havgrunel::{ConvexMonotone, Split};
+    ///
+    /// let (x, y) = ([0.0, 1.0, 2.0, 3.0], [0.0, 5.0, 3.0, 1.0]);
+    /// let method = ConvexMonotone::new(0.0, 0.7, true);
+    /// let careful = method.with_split(Split::Careful);
+    ///
+    /// // What the second month's section adds to the total of 5 before it.
+    /// let second = method.interpolate(&x, &y)?.record(1)?;
+    /// assert!(second.primitive(2.0)? - 5.0 < 2.4);
+    /// let second = careful.interpolate(&x, &y)?.record(1)?;
+    /// assert_eq!(second.primitive(2.0)? - 5.0, 3.0);
+    ///
+    /// // Nothing else was asked for, so this is the method as it was.
+    /// assert_eq!(method, method.with_split(Split::Original));
+    /// # Ok::<(), havgrunel::Refusal>(())
+    /// ```
+    pub fn with_split(self, split: Split) -> Self {
+        ConvexMonotone { split, ..self }
     }
 
     /// The curve of a table: rising knots `x`, and in `y` the average of the period that ends at each. The first average is
@@ -81,7 +129,7 @@ impl ConvexMonotone {
 }
 
 impl Default for ConvexMonotone {
-    /// The settings of the library where nothing else is asked for.
+    /// The settings of the library where nothing else is asked for; it splits as the original does.
     fn default() -> Self {
         ConvexMonotone::new(
             ffi::default_quadraticity(),

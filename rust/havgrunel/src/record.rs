@@ -1,5 +1,7 @@
 //! One section by itself.
 
+#[cfg(doc)]
+use crate::Split;
 use crate::{Refusal, SLOTS, ffi};
 
 /// A section as a curve stores it: 16 bits that say which kinds it is made of, and 24 numbers.
@@ -56,6 +58,9 @@ impl Record {
         quadratic(x_prev, x_next, f_prev, f_next, f_average, prev_primitive);
         /// The same, split where both tests of the method's rule pass, which is so for some that stay above zero, too.
         quadratic_min(x_prev, x_next, f_prev, f_next, f_average, prev_primitive);
+        /// The same by the rule of [`Split::Careful`]: split only where the rule above does and the section is then no longer
+        /// than its period.
+        quadratic_min_careful(x_prev, x_next, f_prev, f_next, f_average, prev_primitive);
     }
 
     /// So much of a quadratic section, and the rest of 1 of a convex monotone one. Refused by 15 where either is no such

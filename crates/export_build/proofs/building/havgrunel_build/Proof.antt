@@ -6,12 +6,12 @@ use borrow.Author.Needs.{needs}
 use lib.Ieee.{Float}
 use lib.ListN.{length}
 use Rattle.table.specs.Buffers.{Buffers, Outcome, buffers}
-use Rattle.table.specs.Method.{new}
 use Rattle.table.specs.declared.method.ConvexMonotone.{ConvexMonotone}
 use Rattle.table.specs.declared.ends.Seam.{Seam}
 use Rattle.curve.specs.Build.{buildOutcome}
 use Rattle.curve.specs.declared.curve.Built.{Built}
 use Rattle.export_build.specs.Building.{seamOf, noAnswer, shortRefusal}
+use Rattle.export_build.specs.Settings.{methodOf}
 use Rattle.export_build.proofs.Across.{roomy, curve-short, curve-roomy, build-last}
 use Rattle.export_build.proofs.building.havgrunel_build.Statement.{statement}
 use Rattle.export_build.proofs.building.havgrunel_build.Tie as tie
@@ -29,10 +29,10 @@ returns c =
     let a = w .before .before .before .before .before .before .before .before .args in
     let b = buffers (a .nodes .now) (a .tags .now) (a .slots .now) in
     curve-short b (a .sections .now) (a .tail .now)
-    (buildOutcome (a .knots .now) (a .averages .now) (new (a .quadraticity) (a .monotonicity) (a .positive)) (a .hold) (seamOf (a .seamed) (a .seam-count) (a .seam-node)) b) _
+    (buildOutcome (a .knots .now) (a .averages .now) (methodOf (a .quadraticity) (a .monotonicity) (a .positive) (a .careful)) (a .hold) (seamOf (a .seamed) (a .seam-count) (a .seam-node)) b) _
     (sym (n .no-answer .ensures) ∙ v .before .if1 .taken)
-    (build-last (a .knots .now) (a .averages .now) (w .new .result) (a .hold) (s .seam-of .result) b _ _ (v .build-verdict .ensures) (c .last-refusal .ensures)
-    ∙ ap (λ (o : Outcome Built). shortRefusal (o .answer)) (same-build (a .knots .now) (a .averages .now) _ _ (a .hold) _ _ b (w .new .ensures) (s .seam-of .ensures)))
+    (build-last (a .knots .now) (a .averages .now) (w .method-of .result) (a .hold) (s .seam-of .result) b _ _ (v .build-verdict .ensures) (c .last-refusal .ensures)
+    ∙ ap (λ (o : Outcome Built). shortRefusal (o .answer)) (same-build (a .knots .now) (a .averages .now) _ _ (a .hold) _ _ b (w .method-of .ensures) (s .seam-of .ensures)))
 
 -- past the test for room
 roomy-here : (c : tie.Else1) → let a = c .before .before .before .before .before .before .before .before .before .before .before .args in
@@ -52,7 +52,7 @@ returns-2 c =
     let a = w .before .before .before .before .before .before .before .before .args in
     let lent = buffers (a .nodes .now) (a .tags .now) (a .slots .now) in
     curve-roomy lent (a .sections .now) (a .tail .now) _ _ _ _ _ (roomy-here e)
-    (b .build .ensures ∙ same-build (a .knots .now) (a .averages .now) _ _ (a .hold) _ _ lent (w .new .ensures) (s .seam-of .ensures)) (t .write-answer .ensures)
+    (b .build .ensures ∙ same-build (a .knots .now) (a .averages .now) _ _ (a .hold) _ _ lent (w .method-of .ensures) (s .seam-of .ensures)) (t .write-answer .ensures)
 
 pub havgrunel-build-spec : {M : Type 1} → statement M
 havgrunel-build-spec =

@@ -7,13 +7,13 @@ use borrow.Author.Needs.{needs}
 use lib.Ieee.{Float}
 use lib.ListN.{length}
 use Rattle.table.specs.Buffers.{Buffers, Outcome, buffers}
-use Rattle.table.specs.Method.{new}
 use Rattle.table.specs.declared.method.ConvexMonotone.{ConvexMonotone}
 use Rattle.curve.specs.declared.curve.Built.{Built}
 use Rattle.growth.specs.Growth.{carriedAt, growOutcome, holds}
 use Rattle.growth.specs.declared.growth.Previous.{Previous}
 use Rattle.export_build.specs.Building.{noAnswer, shortRefusal}
 use Rattle.export_build.specs.Growing.{previousOf}
+use Rattle.export_build.specs.Settings.{methodOf}
 use Rattle.export_build.proofs.Across.{roomy, curve-short, curve-roomy, grow-last}
 use Rattle.export_build.proofs.growing.havgrunel_grow.Statement.{statement}
 use Rattle.export_build.proofs.growing.havgrunel_grow.Tie as tie
@@ -31,12 +31,12 @@ returns c =
     let a = w .before .before .before .before .before .before .before .before .before .before .args in
     let b = buffers (a .nodes .now) (a .tags .now) (a .slots .now) in
     curve-short b (a .sections .now) (a .tail .now)
-    (growOutcome (a .knots .now) (a .averages .now) (new (a .quadraticity) (a .monotonicity) (a .positive)) (a .localisation) (a .final-size)
+    (growOutcome (a .knots .now) (a .averages .now) (methodOf (a .quadraticity) (a .monotonicity) (a .positive) (a .careful)) (a .localisation) (a .final-size)
     (previousOf (a .grown) (a .previous-sections) (a .previous-held)) (a .previous-tags .now) (a .previous-slots .now) b) _ (sym (n .no-answer .ensures) ∙ c .before .if1 .taken)
-    (grow-last (a .knots .now) (a .averages .now) (w .new .result) (holds (length (a .knots .now)) (a .final-size))
+    (grow-last (a .knots .now) (a .averages .now) (w .method-of .result) (holds (length (a .knots .now)) (a .final-size))
     (carriedAt (length (a .knots .now)) (a .localisation) (p .previous-of .result) (a .previous-tags .now) (a .previous-slots .now)) b _ (c .refusal-of .ensures)
     ∙ ap (λ (o : Outcome Built). shortRefusal (o .answer))
-    (same-grow (a .knots .now) (a .averages .now) _ _ (a .localisation) (a .final-size) _ _ (a .previous-tags .now) (a .previous-slots .now) b (w .new .ensures) (p .previous-of .ensures)))
+    (same-grow (a .knots .now) (a .averages .now) _ _ (a .localisation) (a .final-size) _ _ (a .previous-tags .now) (a .previous-slots .now) b (w .method-of .ensures) (p .previous-of .ensures)))
 
 -- past the test for room
 roomy-here : (c : tie.Else1) → let a = c .before .before .before .before .before .before .before .before .before .before .before .before .before .args in
@@ -56,7 +56,7 @@ returns-2 c =
     let a = w .before .before .before .before .before .before .before .before .before .before .args in
     let lent = buffers (a .nodes .now) (a .tags .now) (a .slots .now) in
     curve-roomy lent (a .sections .now) (a .tail .now) _ _ _ _ _ (roomy-here e)
-    (g .grow .ensures ∙ same-grow (a .knots .now) (a .averages .now) _ _ (a .localisation) (a .final-size) _ _ (a .previous-tags .now) (a .previous-slots .now) lent (w .new .ensures) (p .previous-of .ensures))
+    (g .grow .ensures ∙ same-grow (a .knots .now) (a .averages .now) _ _ (a .localisation) (a .final-size) _ _ (a .previous-tags .now) (a .previous-slots .now) lent (w .method-of .ensures) (p .previous-of .ensures))
     (t .write-answer .ensures)
 
 pub havgrunel-grow-spec : {M : Type 1} → statement M

@@ -4,10 +4,10 @@ use mathlib.Core.Path.{_≡_, sym, ap, _∙_}
 use borrow.Author.Needs.{needs}
 use lib.ListN.{length}
 use Rattle.table.specs.Buffers.{buffers}
-use Rattle.table.specs.Method.{new}
 use Rattle.table.specs.declared.method.ConvexMonotone.{ConvexMonotone}
 use Rattle.sheets.specs.InSheets.{inSheetsOutcome}
 use Rattle.export_build.specs.Building.{noAnswer, shortRefusal}
+use Rattle.export_build.specs.Settings.{methodOf}
 use Rattle.export_build.proofs.Across.{roomy, curve-short, curve-roomy, sheets-last}
 use Rattle.export_build.proofs.in_sheets.havgrunel_build_in_sheets.Statement.{statement}
 use Rattle.export_build.proofs.in_sheets.havgrunel_build_in_sheets.Tie as tie
@@ -18,9 +18,9 @@ returns c =
     let w = n .before in
     let a = w .before .before .before .before .before .before .before .before .before .args in
     let b = buffers (a .nodes .now) (a .tags .now) (a .slots .now) in
-    curve-short b (a .sections .now) (a .tail .now) (inSheetsOutcome (a .knots .now) (a .averages .now) (new (a .quadraticity) (a .monotonicity) (a .positive)) (a .cuts .now) b) _ (sym (n .no-answer .ensures) ∙ c .before .if1 .taken)
-    (sheets-last (a .knots .now) (a .averages .now) (w .new .result) (a .cuts .now) b _ (c .cut-refusal .ensures)
-    ∙ ap (λ (m : ConvexMonotone). shortRefusal (inSheetsOutcome (a .knots .now) (a .averages .now) m (a .cuts .now) b .answer)) (w .new .ensures))
+    curve-short b (a .sections .now) (a .tail .now) (inSheetsOutcome (a .knots .now) (a .averages .now) (methodOf (a .quadraticity) (a .monotonicity) (a .positive) (a .careful)) (a .cuts .now) b) _ (sym (n .no-answer .ensures) ∙ c .before .if1 .taken)
+    (sheets-last (a .knots .now) (a .averages .now) (w .method-of .result) (a .cuts .now) b _ (c .cut-refusal .ensures)
+    ∙ ap (λ (m : ConvexMonotone). shortRefusal (inSheetsOutcome (a .knots .now) (a .averages .now) m (a .cuts .now) b .answer)) (w .method-of .ensures))
 
 -- past the test for room
 roomy-here : (c : tie.Else1) → let a = c .before .before .before .before .before .before .before .before .before .before .before .args in
@@ -39,7 +39,7 @@ returns-2 c =
     let a = w .before .before .before .before .before .before .before .before .before .args in
     let lent = buffers (a .nodes .now) (a .tags .now) (a .slots .now) in
     curve-roomy lent (a .sections .now) (a .tail .now) _ _ _ _ _ (roomy-here e)
-    (b .build-in-sheets .ensures ∙ ap (λ (m : ConvexMonotone). inSheetsOutcome (a .knots .now) (a .averages .now) m (a .cuts .now) lent) (w .new .ensures)) (t .write-answer .ensures)
+    (b .build-in-sheets .ensures ∙ ap (λ (m : ConvexMonotone). inSheetsOutcome (a .knots .now) (a .averages .now) m (a .cuts .now) lent) (w .method-of .ensures)) (t .write-answer .ensures)
 
 pub havgrunel-build-in-sheets-spec : {M : Type 1} → statement M
 havgrunel-build-in-sheets-spec =

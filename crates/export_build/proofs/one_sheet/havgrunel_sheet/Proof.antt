@@ -6,12 +6,12 @@ use borrow.Author.Needs.{needs}
 use borrow.Author.Tests.{lt-ltb, le-ltb}
 use lib.Ieee.{Float}
 use Rattle.table.specs.Buffers.{Buffers, Outcome, buffers}
-use Rattle.table.specs.Method.{new}
 use Rattle.table.specs.declared.method.ConvexMonotone.{ConvexMonotone}
 use Rattle.table.specs.declared.ends.End.{End}
 use Rattle.sheets.specs.Sheet.{sheetOutcome}
 use Rattle.sheets.specs.declared.sheet.SheetBuilt.{SheetBuilt}
 use Rattle.export_build.specs.OneSheet.{endOf, shortRefusal}
+use Rattle.export_build.specs.Settings.{methodOf}
 use Rattle.export_build.proofs.Across.{sheet-short, sheet-roomy, sheet-last}
 use Rattle.export_build.proofs.one_sheet.havgrunel_sheet.Statement.{statement}
 use Rattle.export_build.proofs.one_sheet.havgrunel_sheet.Tie as tie
@@ -32,10 +32,10 @@ returns c =
     let a = w .before .before .before .before .before .before .before .args in
     let b = buffers (a .nodes .now) (a .tags .now) (a .slots .now) in
     sheet-short b (a .answer .now)
-    (sheetOutcome (a .knots .now) (a .averages .now) (new (a .quadraticity) (a .monotonicity) (a .positive)) (endOf (a .left-given) (a .left-node)) (endOf (a .right-given) (a .right-node)) (a .start) (a .place) b) _ (lt-ltb _ _ (v .before .if1 .taken))
-    (sheet-last (a .knots .now) (a .averages .now) (w .new .result) (l .end-of .result) (r .end-of2 .result) (a .start) (a .place) b _ _ (v .sheet-verdict .ensures) (c .last-refusal .ensures)
+    (sheetOutcome (a .knots .now) (a .averages .now) (methodOf (a .quadraticity) (a .monotonicity) (a .positive) (a .careful)) (endOf (a .left-given) (a .left-node)) (endOf (a .right-given) (a .right-node)) (a .start) (a .place) b) _ (lt-ltb _ _ (v .before .if1 .taken))
+    (sheet-last (a .knots .now) (a .averages .now) (w .method-of .result) (l .end-of .result) (r .end-of2 .result) (a .start) (a .place) b _ _ (v .sheet-verdict .ensures) (c .last-refusal .ensures)
     ∙ ap (λ (o : Outcome SheetBuilt). shortRefusal (o .answer))
-    (same-sheet (a .knots .now) (a .averages .now) _ _ _ _ _ _ (a .start) (a .place) b (w .new .ensures) (l .end-of .ensures) (r .end-of2 .ensures)))
+    (same-sheet (a .knots .now) (a .averages .now) _ _ _ _ _ _ (a .start) (a .place) b (w .method-of .ensures) (l .end-of .ensures) (r .end-of2 .ensures)))
 
 returns-2 : tie.Need-returns-2
 returns-2 c =
@@ -48,7 +48,7 @@ returns-2 c =
     let a = w .before .before .before .before .before .before .before .args in
     let b = buffers (a .nodes .now) (a .tags .now) (a .slots .now) in
     sheet-roomy b (a .answer .now) _ _ _ _ (le-ltb _ _ (e .if1 .left))
-    (d .sheet .ensures ∙ same-sheet (a .knots .now) (a .averages .now) _ _ _ _ _ _ (a .start) (a .place) b (w .new .ensures) (l .end-of .ensures) (r .end-of2 .ensures)) (t .write-end .ensures)
+    (d .sheet .ensures ∙ same-sheet (a .knots .now) (a .averages .now) _ _ _ _ _ _ (a .start) (a .place) b (w .method-of .ensures) (l .end-of .ensures) (r .end-of2 .ensures)) (t .write-end .ensures)
 
 pub havgrunel-sheet-spec : {M : Type 1} → statement M
 havgrunel-sheet-spec =
