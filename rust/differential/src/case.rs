@@ -8,6 +8,8 @@ use oracle::{Recipe, Record, Seam, Settings};
 #[derive(Clone)]
 pub struct Table {
     pub settings: Settings,
+    /// Whether parabolas are split by the careful rule, which the original has not.
+    pub careful: bool,
     pub hold: bool,
     pub seam: Option<Seam>,
     pub x: Vec<f64>,
@@ -58,6 +60,7 @@ pub struct Step {
     pub knots: usize,
     pub averages: usize,
     pub settings: Settings,
+    pub careful: bool,
     pub localisation: usize,
     pub final_size: usize,
     pub previous: Previous,
@@ -99,6 +102,16 @@ pub struct Sheets {
     pub given: [f64; 3],
 }
 
+/// A section from its arguments.
+#[derive(Clone)]
+pub struct Single {
+    pub recipe: Recipe,
+    pub careful: bool,
+    /// Entries for its slots.
+    pub lent: usize,
+    pub asked: Vec<f64>,
+}
+
 /// One comparison of the two libraries. A further kind of comparison is a further case here, drawn, judged and shrunk where the
 /// compiler then asks for it.
 #[derive(Clone)]
@@ -111,8 +124,7 @@ pub enum Case {
     },
     Reading(Reading),
     Sheets(Sheets),
-    /// A single section from its arguments, with so many entries for its slots.
-    Section(Recipe, usize, Vec<f64>),
+    Section(Single),
     /// A section from its record, with so many of its slots lent and so many entries for the answers.
     Record(Record, usize, usize, Vec<f64>),
 }
@@ -170,15 +182,23 @@ fn list(f: &mut Formatter<'_>, name: &str, floats: &[f64]) -> fmt::Result {
     writeln!(f)
 }
 
-fn settings(f: &mut Formatter<'_>, settings: &Settings) -> fmt::Result {
+fn settings(f: &mut Formatter<'_>, settings: &Settings, careful: bool) -> fmt::Result {
     writeln!(f, "  quadraticity {}", Float(settings.quadraticity))?;
     writeln!(f, "  monotonicity {}", Float(settings.monotonicity))?;
-    writeln!(f, "  positivity {}", settings.positivity)
+    writeln!(f, "  positivity {}", settings.positivity)?;
+    rule(f, careful)
+}
+
+fn rule(f: &mut Formatter<'_>, careful: bool) -> fmt::Result {
+    if careful {
+        writeln!(f, "  split by the careful rule")?;
+    }
+    Ok(())
 }
 
 impl Display for Table {
     fn fmt(&self, f: &mut Formatter<'_>) -> fmt::Result {
-        settings(f, &self.settings)?;
+        settings(f, &self.settings, self.careful)?;
         list(f, "knots", &self.x)?;
         list(f, "averages", &self.y)?;
         if self.hold {
@@ -230,7 +250,7 @@ impl Display for Step {
             " a step to {} knots and {} averages, localisation {}, final size {}",
             self.knots, self.averages, self.localisation, self.final_size
         )?;
-        settings(f, &self.settings)?;
+        settings(f, &self.settings, self.careful)?;
         match &self.previous {
             Previous::None => writeln!(f, "  from no curve")?,
             Previous::Last => writeln!(f, "  from the last curve, if there is one")?,
@@ -312,11 +332,12 @@ impl Display for Case {
             }
             Case::Reading(reading) => write!(f, "reading\n{reading}"),
             Case::Sheets(sheets) => write!(f, "sheets\n{sheets}"),
-            Case::Section(recipe, slots, asked) => {
+            Case::Section(single) => {
                 let mut words = String::new();
-                recipe.push(&mut words);
-                writeln!(f, "section{words}\n  slots lent: {slots}")?;
-                list(f, "asked", asked)
+                single.recipe.push(&mut words);
+                writeln!(f, "section{words}\n  slots lent: {}", single.lent)?;
+                rule(f, single.careful)?;
+                list(f, "asked", &single.asked)
             }
             Case::Record(record, slots, answer, asked) => {
                 writeln!(f, "record {:04x}", record.tag)?;

@@ -4,6 +4,8 @@ use std::fmt::{self, Display, Formatter};
 
 use oracle::legal_tags;
 
+use crate::expected::Splits;
+
 /// Refusal numbers that curves, records and sheets can meet.
 const REFUSALS: [u8; 17] = [
     1,
@@ -50,6 +52,16 @@ pub struct Counts {
     pub cut_whole: u64,
     pub sheets: u64,
     pub sheets_accepted: u64,
+    /// What was accepted in the careful mode: whole tables, tables in sheets and steps of growth.
+    pub careful_builds: u64,
+    pub careful_cut: u64,
+    pub careful_steps: u64,
+    /// Their sections that the original splits, those of them of a ratio above 1, and those that the careful rule splits too.
+    split: u64,
+    split_above: u64,
+    kept_split: u64,
+    /// Careful parabolas by themselves that the original splits, by their ratios.
+    ratios: [u64; RATIOS.len()],
     refused: [u64; CUTS_NOT_INNER as usize + 1],
     /// Sections of curves, and sections by themselves, by the upper bits of their tags.
     built: [u64; 512],
@@ -71,12 +83,27 @@ const KINDS: [(&str, u16, u16); 11] = [
     ("combination", 0, 0),
 ];
 
+/// A sort of ratio, and what holds of one.
+type Ratio = (&'static str, fn(f64) -> bool);
+
+/// What a ratio is counted as: the first of these that holds.
+const RATIOS: [Ratio; 8] = [
+    ("not a number", f64::is_nan),
+    ("infinite", f64::is_infinite),
+    ("below 0", |ratio| ratio < 0.0),
+    ("exactly 0", |ratio| ratio == 0.0),
+    ("above 0, below 1", |ratio| ratio < 1.0),
+    ("exactly 1", |ratio| ratio == 1.0),
+    ("just above 1", |ratio| ratio <= 1.0 + 4.0 * f64::EPSILON),
+    ("well above 1", |_| true),
+];
+
 fn combined(tag: u16) -> bool {
     tag & 0xf000 != 0 && tag & 0x0f00 != 0
 }
 
-impl Counts {
-    pub fn new() -> Counts {
+impl Default for Counts {
+    fn default() -> Counts {
         Counts {
             cases: 0,
             builds: 0,
@@ -95,12 +122,21 @@ impl Counts {
             cut_whole: 0,
             sheets: 0,
             sheets_accepted: 0,
+            careful_builds: 0,
+            careful_cut: 0,
+            careful_steps: 0,
+            split: 0,
+            split_above: 0,
+            kept_split: 0,
+            ratios: [0; RATIOS.len()],
             refused: [0; CUTS_NOT_INNER as usize + 1],
             built: [0; 512],
             single: [0; 512],
         }
     }
+}
 
+impl Counts {
     /// A call's number, 0 where it was accepted.
     pub fn number(&mut self, number: u8) {
         self.refused[usize::from(number)] += 1;
@@ -112,6 +148,24 @@ impl Counts {
 
     pub fn single(&mut self, tag: u16) {
         self.single[usize::from(tag >> 7)] += 1;
+    }
+
+    /// The sections of a careful curve.
+    pub fn splits(&mut self, splits: Splits) {
+        self.split += splits.original;
+        self.split_above += splits.above;
+        self.kept_split += splits.kept;
+    }
+
+    /// The ratio of a careful parabola by itself, where the original splits it.
+    pub fn ratio(&mut self, ratio: f64) {
+        let class = RATIOS.iter().position(|(_, holds)| holds(ratio));
+        self.ratios[class.expect("the last holds of all")] += 1;
+    }
+
+    /// The sections that the original splits and the careful rule leaves whole.
+    pub fn left_whole(&self) -> u64 {
+        self.split - self.kept_split
     }
 
     pub fn add(&mut self, other: &Counts) {
@@ -133,11 +187,18 @@ impl Counts {
             (&mut self.cut_whole, other.cut_whole),
             (&mut self.sheets, other.sheets),
             (&mut self.sheets_accepted, other.sheets_accepted),
+            (&mut self.careful_builds, other.careful_builds),
+            (&mut self.careful_cut, other.careful_cut),
+            (&mut self.careful_steps, other.careful_steps),
+            (&mut self.split, other.split),
+            (&mut self.split_above, other.split_above),
+            (&mut self.kept_split, other.kept_split),
         ] {
             *mine += others;
         }
         for (mine, others) in [
             (&mut self.refused[..], &other.refused[..]),
+            (&mut self.ratios, &other.ratios),
             (&mut self.built, &other.built),
             (&mut self.single, &other.single),
         ] {
@@ -187,6 +248,23 @@ impl Counts {
         if self.sheets_accepted == 0 {
             missing.push("no sheet was accepted".into());
         }
+        for (count, what) in [
+            (self.careful_builds, "no careful table was built"),
+            (self.careful_cut, "no careful table was cut"),
+            (self.careful_steps, "no careful table grew"),
+            (self.split_above, "no careful table had a ratio above 1"),
+            (self.kept_split, "the careful rule kept no split"),
+            (self.left_whole(), "the careful rule left no section whole"),
+        ] {
+            if count == 0 {
+                missing.push(what.into());
+            }
+        }
+        for ((name, _), &count) in RATIOS.iter().zip(&self.ratios) {
+            if count == 0 {
+                missing.push(format!("no careful parabola had a ratio {name}"));
+            }
+        }
         missing
     }
 }
@@ -211,6 +289,16 @@ impl Display for Counts {
         row("tables cut, all sheets accepted", self.cut_whole)?;
         row("sheets, refused ones too", self.sheets)?;
         row("sheets accepted", self.sheets_accepted)?;
+        row("careful tables built", self.careful_builds)?;
+        row("careful tables cut, all sheets accepted", self.careful_cut)?;
+        row("careful steps of growth", self.careful_steps)?;
+        row("in these: sections that the original splits", self.split)?;
+        row("in these: of a ratio above 1", self.split_above)?;
+        row("in these: split by the careful rule, too", self.kept_split)?;
+        row("in these: left whole by it", self.left_whole())?;
+        for ((name, _), &count) in RATIOS.iter().zip(&self.ratios) {
+            row(&format!("careful by itself, ratio {name}"), count)?;
+        }
         row("calls accepted", self.refused[0])?;
         for number in REFUSALS {
             let count = self.refused[usize::from(number)];

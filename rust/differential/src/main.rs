@@ -2,22 +2,15 @@
 //!
 //! The cases are the same for the same seed and count, and so is what is printed but for times, which go to standard error. The first that differs is made as small as can be and told in bits.
 
-mod case;
-mod counts;
-mod draw;
-mod judge;
-mod lent;
-mod roots;
-mod shrink;
-
 use std::panic;
 use std::process::ExitCode;
 use std::sync::atomic::{AtomicU64, Ordering::Relaxed};
 use std::thread;
 use std::time::{Duration, Instant};
 
-use counts::Counts;
-use judge::{Judge, Mismatch};
+use differential::counts::Counts;
+use differential::judge::{Judge, Mismatch};
+use differential::{draw, roots, shrink};
 
 const THREADS: u64 = 2;
 const USAGE: &str = "differential [--seconds S] [--cases N] [--roots N] [--seed X]";
@@ -105,7 +98,7 @@ fn run<T: Send>(
     let (done, end) = (AtomicU64::new(0), AtomicU64::new(amount.turns));
     let start = Instant::now();
     let work = |thread: u64| {
-        let mut judge = Judge::new();
+        let mut judge = Judge::default();
         let mut number = thread;
         let mut next = QUIET;
         while number < end.load(Relaxed) {
@@ -128,7 +121,7 @@ fn run<T: Send>(
         }
         (judge.counts, None)
     };
-    let mut counts = Counts::new();
+    let mut counts = Counts::default();
     let mut first: Found<T> = None;
     thread::scope(|scope| {
         let work = &work;

@@ -139,6 +139,21 @@ fn the_weight_of_a_combination() {
     }
 }
 
+/// The original has one rule of when a parabola is split, and the library a second one beside it.
+#[test]
+fn the_careful_split() {
+    let numbers = [0.0, 1.0, 4.0, 1.0, 3.0, 0.0];
+    let [a, b, c, d, e, f] = numbers;
+    let original_rule = Record::quadratic_min(a, b, c, d, e, f);
+    assert_eq!(original_rule.value(0.75), Ok(1.5625));
+    let careful = Record::quadratic_min_careful(a, b, c, d, e, f);
+    assert_eq!(careful.value(0.75), Ok(2.3125));
+    if at_hand() {
+        let judged = oracle::section(&Recipe::Quadratic(Quadratic::Min(numbers)));
+        assert!(oracle::words::same(1.5625, judged.value(0.75)));
+    }
+}
+
 /// Both are NaNs. Which bits they have is the processor's and the compiler's choice, so nothing is said of them.
 #[test]
 fn a_nan_is_a_nan() {

@@ -67,6 +67,50 @@ fn tables_are_cut_and_a_run_without_any_fails() {
 }
 
 #[test]
+fn careful_tables_are_judged_and_a_run_without_any_fails() {
+    if !oracle::AT_HAND {
+        return;
+    }
+    let many = told(&["--cases", "9000", "--seed", "11"]);
+    for name in [
+        "careful tables built",
+        "careful tables cut, all sheets accepted",
+        "careful steps of growth",
+    ] {
+        assert!(count(&many, name) > 100, "{many}");
+    }
+    let split = count(&many, "in these: sections that the original splits");
+    let kept = count(&many, "in these: split by the careful rule, too");
+    let whole = count(&many, "in these: left whole by it");
+    let above = count(&many, "in these: of a ratio above 1");
+    assert_eq!(split, kept + whole);
+    assert!(kept > 100 && above > 1000 && whole >= above, "{many}");
+    for ratio in [
+        "not a number",
+        "infinite",
+        "below 0",
+        "exactly 0",
+        "above 0, below 1",
+        "exactly 1",
+        "just above 1",
+        "well above 1",
+    ] {
+        let name = format!("careful by itself, ratio {ratio}");
+        assert!(count(&many, &name) > 0, "{many}");
+    }
+
+    let output = run(&["--cases", "10"]);
+    let few = String::from_utf8(output.stdout).expect("text");
+    for missing in [
+        "no careful table was cut",
+        "no careful parabola had a ratio exactly 1",
+    ] {
+        let line = format!("too few cases: {missing}\n");
+        assert!(few.contains(&line), "{few}");
+    }
+}
+
+#[test]
 fn without_the_original_it_says_so() {
     if !oracle::AT_HAND {
         assert_eq!(

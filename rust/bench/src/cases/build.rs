@@ -1,8 +1,10 @@
 //! A table built into a curve. The original copies the table and allocates a box for each part of each section; that, and giving
-//! all of it back, is part of every use of it and is measured.
+//! all of it back, is part of every use of it and is measured. A careful build has the library's side alone, since the original
+//! has no such mode.
 
 use std::hint::black_box;
 
+use havgrunel::Split;
 use oracle::{AT_HAND, Settings, plain};
 
 use super::SIZES;
@@ -26,19 +28,27 @@ fn check(settings: &Settings, tables: &[Table], room: &mut Room) {
     }
 }
 
+/// What a row's name says of it: positivity, and the rule by which it splits.
+const MODES: [(&str, bool, Split); 3] = [
+    ("positive", true, Split::Original),
+    ("positive careful", true, Split::Careful),
+    ("free", false, Split::Original),
+];
+
 pub fn rows(report: &mut Report) {
     for quadraticity in [0.0, 0.3, 1.0] {
-        for positivity in [true, false] {
+        for (mode, positivity, split) in MODES {
             let settings = Settings {
                 quadraticity,
                 monotonicity: 0.7,
                 positivity,
             };
-            let sign = if positivity { "positive" } else { "free" };
+            let asked = method(&settings).with_split(split);
+            let both = AT_HAND && split == Split::Original;
             let mut kinds = Kinds::default();
             let mut measured = false;
             for points in SIZES {
-                let name = format!("build n={points} q={quadraticity} {sign}");
+                let name = format!("build n={points} q={quadraticity} {mode}");
                 if !report.wants(&name) {
                     continue;
                 }
@@ -46,17 +56,16 @@ pub fn rows(report: &mut Report) {
                 let tables = winters(points);
                 let sections = tables.iter().map(Table::sections).sum();
                 let mut room = Room::new();
-                if AT_HAND {
+                if both {
                     check(&settings, &tables, &mut room);
                 }
                 for table in &tables {
-                    room.build(method(&settings), table)
-                        .expect("a winter is built");
+                    room.build(asked, table).expect("a winter is built");
                     kinds.add(&room.tags[..table.sections()]);
                 }
                 let mut ours = || {
                     for table in &tables {
-                        let made = room.build(black_box(method(&settings)), black_box(table));
+                        let made = room.build(black_box(asked), black_box(table));
                         black_box((&made, &room.nodes, &room.tags, &room.slots));
                     }
                 };
@@ -72,11 +81,11 @@ pub fn rows(report: &mut Report) {
                     "section",
                     sections,
                     &mut ours,
-                    AT_HAND.then_some(&mut theirs),
+                    both.then_some(&mut theirs),
                 );
             }
             if measured {
-                report.note(format!("q={quadraticity} {sign}: {kinds}"));
+                report.note(format!("q={quadraticity} {mode}: {kinds}"));
             }
         }
     }

@@ -1,6 +1,7 @@
 //! Tables that grow by a point at a time, with steps that go wrong.
 
 use havgrunel::{MOST_POINTS, SLOTS};
+use oracle::Settings;
 use oracle::answers::rng::Rng;
 
 use super::tables::{averages, knots};
@@ -34,6 +35,12 @@ pub fn growth(rng: &mut Rng) -> Case {
         }
     }
     let settings = settings(rng);
+    grown(rng, x, y, settings, first)
+}
+
+/// A table that grows from so many points on, by these settings.
+pub fn grown(rng: &mut Rng, x: Vec<f64>, y: Vec<f64>, settings: Settings, first: usize) -> Case {
+    let total = x.len();
     let final_size = rng.pick(&[total, total, total, total + 1, first, 0, usize::MAX]);
     let mut points = first;
     let mut steps = Vec::new();
@@ -42,6 +49,7 @@ pub fn growth(rng: &mut Rng) -> Case {
             knots: points,
             averages: points,
             settings,
+            careful: false,
             localisation: first - 1,
             final_size,
             previous: Previous::Last,

@@ -1,5 +1,6 @@
 //! Cases of every temper, each made from the seed and its own number alone.
 
+mod careful;
 mod growing;
 mod reading;
 mod section;
@@ -76,16 +77,31 @@ pub fn rng(seed: u64, number: u64) -> Rng {
     Rng::new(Rng::new(mixed).word())
 }
 
+/// The sorts of case come round by their numbers. Their count is odd, so that each of two threads meets all.
+const ROUND: u64 = 21;
+
+/// One round of so many is built in the careful mode.
+const CAREFUL: u64 = 4;
+
 pub fn case(seed: u64, number: u64) -> Case {
     let rng = &mut rng(seed, number);
-    match number % 19 {
+    let sort = number % ROUND;
+    let case = match sort {
         0..=8 => tables::build(rng),
         9..=11 => growing::growth(rng),
         12 | 13 => reading::reading(rng),
         14 => section::section(rng),
         15 => section::record(rng),
         16 => tables::faulty(rng),
-        _ => sheets::sheets(rng),
+        17 | 18 => sheets::sheets(rng),
+        19 => careful::strip(rng),
+        _ => careful::parabola(rng),
+    };
+    // The last two sorts are about that mode alone.
+    if sort >= 19 || (number / ROUND).is_multiple_of(CAREFUL) {
+        careful::set(rng, case)
+    } else {
+        case
     }
 }
 

@@ -5,7 +5,7 @@ use oracle::answers::rng::Rng;
 use oracle::{Convex, Quadratic, Recipe, Record};
 
 use super::{ENDS, index, number, pattern, tag};
-use crate::case::Case;
+use crate::case::{Case, Single};
 
 /// A period and what a build would know of it, with some numbers changed for any others.
 pub fn section(rng: &mut Rng) -> Case {
@@ -69,9 +69,19 @@ pub fn section(rng: &mut Rng) -> Case {
             Recipe::Combination(weight, quadratic, convex)
         }
     };
+    single(rng, recipe, x_prev, x_next)
+}
+
+/// A section from its arguments, asked around its period.
+pub fn single(rng: &mut Rng, recipe: Recipe, x_prev: f64, x_next: f64) -> Case {
     let record = oracle::section(&recipe).record();
     let lent = rng.pick(&[SLOTS, SLOTS, SLOTS, SLOTS, SLOTS, SLOTS + 3, SLOTS - 1, 0]);
-    Case::Section(recipe, lent, record_queries(rng, &record, x_prev, x_next))
+    Case::Section(Single {
+        recipe,
+        careful: false,
+        lent,
+        asked: record_queries(rng, &record, x_prev, x_next),
+    })
 }
 
 fn record_queries(rng: &mut Rng, record: &Record, x_prev: f64, x_next: f64) -> Vec<f64> {

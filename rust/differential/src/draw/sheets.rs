@@ -4,7 +4,7 @@ use oracle::answers::rng::Rng;
 
 use super::tables::{spoil, table};
 use super::{index, number, points, room};
-use crate::case::{Case, Sheets};
+use crate::case::{Case, Room, Sheets, Table};
 
 /// Inner knots in rising order: one, some or all of them, where there are any.
 fn cuts(rng: &mut Rng, points: usize) -> Vec<usize> {
@@ -73,6 +73,11 @@ pub fn sheets(rng: &mut Rng) -> Case {
     }
     // A sheet has neither.
     (table.hold, table.seam) = (false, None);
+    cut(rng, table, room)
+}
+
+/// A table that is cut somewhere.
+pub fn cut(rng: &mut Rng, table: Table, room: Room) -> Case {
     let points = table.x.len();
     let cuts = cuts(rng, points);
     Case::Sheets(Sheets {

@@ -197,6 +197,7 @@ pub fn table(rng: &mut Rng, points: usize) -> Table {
     });
     Table {
         settings: settings(rng),
+        careful: false,
         hold: rng.chance(4),
         seam,
         x,

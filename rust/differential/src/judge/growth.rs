@@ -5,8 +5,10 @@ use havgrunel::{MOST_POINTS, SLOTS, ffi};
 
 use super::{Agreed, Judge, Mismatch, askable, built, due, method, record_at, same_number};
 use crate::case::{Damage, Previous, Step};
+use crate::expected::Curve;
 
-/// The curve that a step of growth can go on from, as each side has it.
+/// The curve that a step of growth can go on from, as each side has it. The original's is of its own mode, since growth takes
+/// nothing over that depends on the mode.
 struct Kept {
     curve: oracle::Curve,
     tags: Vec<u16>,
@@ -84,7 +86,7 @@ impl Judge {
         let number = ffi::grow(
             x,
             y,
-            method(settings),
+            method(settings, step.careful),
             step.localisation,
             step.final_size,
             previous,
@@ -108,6 +110,11 @@ impl Judge {
             (_, kept) => kept.and_then(|kept| kept.curve.seam()),
         };
         let nodes = oracle::nodes(settings, x, y, seam).expect("a table that grew has nodes");
+        let curve = Curve::new(curve, x, y, self.rule(step.careful));
+        if let Some(splits) = curve.splits() {
+            self.counts.careful_steps += 1;
+            self.counts.splits(splits);
+        }
         self.same_curve(x, &curve, &nodes)?;
         if curve.held() != held {
             let told = format!("the original says {}", curve.held());
@@ -115,7 +122,7 @@ impl Judge {
         }
         let curve = self.ask(x, held, curve, &step.queries)?;
         *kept = Some(Kept {
-            curve,
+            curve: curve.original(),
             tags: self.lent.tags[..points - 1].to_vec(),
             slots: self.lent.slots[..SLOTS * (points - 1)].to_vec(),
             sections: points - 1,

@@ -1,22 +1,27 @@
 //! Both sides are asked, and every number is held against the other's.
 //!
 //! What the original can't be asked is judged by the document: more points than the library takes, short buffers, records that are
-//! not legal, and counts of the largest number, where the original's own sum overflows.
+//! not legal, and counts of the largest number, where the original's own sum overflows. The original has no careful mode: there its
+//! parabolas that may be split are made anew, by the document's rule.
 
+mod asking;
 mod growth;
 mod knots;
 mod reading;
 mod section;
 mod sheets;
 
-use havgrunel::lent::{Curve, Seam, Tail};
-use havgrunel::{ConvexMonotone, MOST_POINTS, SLOTS, ffi};
+use havgrunel::lent::{Seam, Tail};
+use havgrunel::{ConvexMonotone, MOST_POINTS, SLOTS, Split, ffi};
 use oracle::words::{bits, same};
 use oracle::{Record, Settings};
 
+use crate::careful::{self, Rule};
 use crate::case::{Case, Queries, Room, Table};
 use crate::counts::Counts;
-use crate::lent::{Lent, is_old, old};
+use crate::expected::Curve;
+use crate::lent::Lent;
+use asking::{breaks, query};
 
 /// A number that is not the other side's.
 #[derive(Clone)]
@@ -56,7 +61,7 @@ fn same_float(part: &'static str, what: impl FnOnce() -> String, mine: f64, othe
         return Ok(());
     }
     let told = format!(
-        "{}: the library has {:016x} ({mine:?}), the original {:016x} ({other:?})",
+        "{}: the library has {:016x} ({mine:?}), and {:016x} ({other:?}) is due",
         what(),
         bits(mine),
         bits(other)
@@ -64,12 +69,18 @@ fn same_float(part: &'static str, what: impl FnOnce() -> String, mine: f64, othe
     Err(Mismatch::new(part, told))
 }
 
-fn method(settings: &Settings) -> ConvexMonotone {
-    ConvexMonotone::new(
+fn method(settings: &Settings, careful: bool) -> ConvexMonotone {
+    let method = ConvexMonotone::new(
         settings.quadraticity,
         settings.monotonicity,
         settings.positivity,
-    )
+    );
+    // Cases of the original's mode are built as by callers that know of no other.
+    if careful {
+        method.with_split(Split::Careful)
+    } else {
+        method
+    }
 }
 
 /// One less than the largest number, where no sum overflows and the document has the same answer.
@@ -102,14 +113,29 @@ fn due<T>(judged: &Result<T, u8>, points: usize, short: bool) -> u8 {
 pub struct Judge {
     pub counts: Counts,
     lent: Lent,
+    rule: Rule,
+}
+
+impl Default for Judge {
+    /// One that judges the careful mode by the document's rule.
+    fn default() -> Judge {
+        Judge::by(careful::in_period)
+    }
 }
 
 impl Judge {
-    pub fn new() -> Judge {
+    /// One that judges the careful mode by this rule.
+    pub fn by(rule: Rule) -> Judge {
         Judge {
-            counts: Counts::new(),
+            counts: Counts::default(),
             lent: Lent::default(),
+            rule,
         }
+    }
+
+    /// The rule that is due in a mode; none where it is the original's own.
+    fn rule(&self, careful: bool) -> Option<Rule> {
+        careful.then_some(self.rule)
     }
 
     pub fn case(&mut self, case: &Case) -> Agreed {
@@ -119,7 +145,7 @@ impl Judge {
             Case::Growth { x, y, steps } => self.growth(x, y, steps),
             Case::Reading(reading) => self.reading(reading),
             Case::Sheets(sheets) => self.sheets(sheets),
-            Case::Section(recipe, slots, asked) => self.section(recipe, *slots, asked),
+            Case::Section(single) => self.section(single),
             Case::Record(record, slots, answer, asked) => {
                 self.record(record, *slots, *answer, asked)
             }
@@ -133,7 +159,7 @@ impl Judge {
             count: seam.count,
             node: seam.f_next,
         });
-        let method = method(&table.settings);
+        let method = method(&table.settings, table.careful);
         let (buffers, sections, tail) = self.lent.parts();
         ffi::build(
             &table.x, &table.y, method, table.hold, seam, buffers, sections, tail,
@@ -166,13 +192,18 @@ impl Judge {
         };
         let nodes = oracle::nodes(settings, &table.x, &table.y, seam);
         let nodes = nodes.expect("a table that builds has nodes");
+        let curve = Curve::new(curve, &table.x, &table.y, self.rule(table.careful));
+        if let Some(splits) = curve.splits() {
+            self.counts.careful_builds += 1;
+            self.counts.splits(splits);
+        }
         self.same_curve(&table.x, &curve, &nodes)?;
         self.ask(&table.x, *hold, curve, queries)?;
         Ok(())
     }
 
-    /// That what was written is the original's curve, and that nothing else was.
-    fn same_curve(&mut self, knots: &[f64], curve: &oracle::Curve, nodes: &[f64]) -> Agreed {
+    /// That what was written is this curve, and that nothing else was.
+    fn same_curve(&mut self, knots: &[f64], curve: &Curve, nodes: &[f64]) -> Agreed {
         let (lent, points) = (&self.lent, knots.len());
         lent.untouched(Some(points))?;
         let sections = lent.sections[0];
@@ -192,8 +223,8 @@ impl Judge {
         same_tail(&self.lent.tail, &curve.extrapolation())
     }
 
-    /// That the section written at a place is the original's, by its record and at its last knot.
-    fn same_section(&mut self, knots: &[f64], curve: &oracle::Curve, place: usize) -> Agreed {
+    /// That the section written at a place is this curve's, by its record and at its last knot.
+    fn same_section(&mut self, knots: &[f64], curve: &Curve, place: usize) -> Agreed {
         let lent = &self.lent;
         let record = curve.record(place);
         self.counts.built(record.tag);
@@ -211,69 +242,6 @@ impl Judge {
             curve.f_next(place),
         ];
         same_answers(&answers, &due, at)
-    }
-
-    /// Asks the curve that was just written, and hands the original's back.
-    fn ask(
-        &mut self,
-        knots: &[f64],
-        held: bool,
-        curve: oracle::Curve,
-        queries: &Queries,
-    ) -> Result<oracle::Curve, Mismatch> {
-        let breaks = if queries.breaks {
-            breaks(&curve)
-        } else {
-            Vec::new()
-        };
-        for &x in queries.inside.iter().chain(&breaks) {
-            self.asked(knots, held, &curve, false, x)?;
-        }
-        let curve = curve.with_extrapolation(true);
-        for &x in &queries.anywhere {
-            self.asked(knots, held, &curve, true, x)?;
-        }
-        Ok(curve.with_extrapolation(false))
-    }
-
-    fn asked(
-        &mut self,
-        knots: &[f64],
-        held: bool,
-        curve: &oracle::Curve,
-        allow: bool,
-        x: f64,
-    ) -> Agreed {
-        let lent = &self.lent;
-        let mine = Curve {
-            sections: lent.sections[0],
-            held,
-            extrapolates: allow,
-            tail: tail(&lent.tail),
-        };
-        let here = |mut mismatch: Mismatch| {
-            mismatch.query = Some((allow, x));
-            mismatch
-        };
-        let value = curve.value(x).map_err(oracle::Refusal::number);
-        let primitive = curve.primitive(x).map_err(oracle::Refusal::number);
-        let due = match (value, primitive) {
-            (Ok(value), Ok(primitive)) => Ok([value, primitive]),
-            (Err(value), Err(primitive)) if value == primitive => Err(value),
-            _ => panic!("the original refuses one of value and primitive at {x:?}"),
-        };
-        let number = query(knots, &lent.tags, &lent.slots, &mine, x, 1, due).map_err(here)?;
-        self.counts.queries += 2;
-        self.counts.number(number);
-        // The derivative's refusal is the same everywhere, so not every query asks for it.
-        if allow || !x.is_finite() {
-            let judged = curve.derivative(x).map_err(oracle::Refusal::number);
-            let due = judged.err().unwrap_or(0);
-            let number = ffi::derivative(x);
-            self.counts.number(number);
-            same_number("the derivative", number, due).map_err(here)?;
-        }
-        Ok(())
     }
 }
 
@@ -296,7 +264,7 @@ fn same_tail(mine: &[f64], due: &[f64; 3]) -> Agreed {
 fn same_record(tag: u16, slots: &[f64], due: &Record, what: impl Fn() -> String) -> Agreed {
     if tag != due.tag {
         let told = format!(
-            "{}: the library has {tag:04x}, the original {:04x}",
+            "{}: the library has {tag:04x}, and {:04x} is due",
             what(),
             due.tag
         );
@@ -318,75 +286,10 @@ fn same_answers(mine: &[f64], due: &[f64; 3], at: f64) -> Agreed {
     Ok(())
 }
 
-/// Asks the library for value and primitive, into so many entries, and holds them against what is due. Answers the number.
-fn query(
-    knots: &[f64],
-    tags: &[u16],
-    slots: &[f64],
-    curve: &Curve,
-    x: f64,
-    entries: usize,
-    due: Result<[f64; 2], u8>,
-) -> Result<u8, Mismatch> {
-    // An answer's own buffer is looked at with the curve's: after 4, 5, 7 and 10, before 12, 13 and 15.
-    let due = match due {
-        Ok(_) | Err(12 | 13 | 15) if entries == 0 => Err(11),
-        due => due,
-    };
-    let mut number = 0;
-    for (place, part) in ["a value", "a primitive"].into_iter().enumerate() {
-        let mut kept = [old(0), old(1), old(2)];
-        let answer = &mut kept[..entries.min(3)];
-        number = if place == 0 {
-            ffi::value(knots, tags, slots, curve, x, answer)
-        } else {
-            ffi::primitive(knots, tags, slots, curve, x, answer)
-        };
-        let refusal = ["a value's refusal", "a primitive's refusal"][place];
-        same_number(refusal, number, due.err().unwrap_or(0))?;
-        let what = || format!("{part} at {:016x} ({x:?})", x.to_bits());
-        let mut written = 0;
-        if let Ok(due) = due {
-            written = 1;
-            same_float(part, what, kept[0], due[place])?;
-        }
-        for (place, &answer) in kept.iter().enumerate().skip(written) {
-            if !is_old(place, answer) {
-                let told = format!("{}: answer {place} was written to", what());
-                return Err(Mismatch::new("a lent buffer", told));
-            }
-        }
-    }
-    Ok(number)
-}
-
 fn record_at(tags: &[u16], slots: &[f64], place: usize) -> Record {
     let slots = &slots[SLOTS * place..][..SLOTS];
     Record {
         tag: tags[place],
         slots: slots.try_into().expect("a record's slots"),
     }
-}
-
-/// Where the formulas of a curve's sections change, and beside it. Of a long curve only some sections are looked at.
-fn breaks(curve: &oracle::Curve) -> Vec<f64> {
-    let step = 1 + curve.sections() / 12;
-    let mut breaks = Vec::new();
-    for place in (0..curve.sections()).step_by(step) {
-        let Record { tag, slots } = curve.record(place);
-        let mut at = |x: f64| breaks.extend([x.next_down(), x, x.next_up()]);
-        if tag & 0x1000 != 0 {
-            at(slots[2]);
-            at(slots[3]);
-        }
-        match tag & 0x0f80 {
-            0x0680 => {
-                at(slots[22]);
-                at(slots[23]);
-            }
-            0x0300..=0x0600 => at(slots[13] + slots[18] * slots[14]),
-            _ => {}
-        }
-    }
-    breaks
 }

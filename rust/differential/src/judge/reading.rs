@@ -6,6 +6,7 @@ use oracle::Recipe;
 
 use super::{Agreed, Judge, Mismatch, breaks, built, due, query, record_at, same_number, tail};
 use crate::case::{Reading, Room};
+use crate::expected;
 use crate::lent::{is_old, old};
 
 impl Judge {
@@ -19,6 +20,7 @@ impl Judge {
         let (false, Ok(built)) = (due != 0, judged) else {
             return Ok(());
         };
+        let built = expected::Curve::new(built, &table.x, &table.y, self.rule(table.careful));
         let breaks = if reading.queries.breaks {
             breaks(&built)
         } else {

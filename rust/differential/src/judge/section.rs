@@ -4,17 +4,20 @@ use havgrunel::{SLOTS, ffi};
 use oracle::{Convex, Quadratic, Recipe, Record};
 
 use super::{Agreed, Judge, Mismatch, same_answers, same_number, same_record};
+use crate::case::Single;
+use crate::expected::Section;
 use crate::lent::{is_old, old};
 
 impl Judge {
-    pub(super) fn section(&mut self, recipe: &Recipe, lent: usize, asked: &[f64]) -> Agreed {
-        let judged = oracle::section(recipe);
+    pub(super) fn section(&mut self, single: &Single) -> Agreed {
+        let (recipe, lent) = (&single.recipe, single.lent);
+        let judged = Section::made(recipe, self.rule(single.careful));
         let record = judged.record();
         self.counts.sections += 1;
         self.counts.single(record.tag);
         let mut tag = 0xa5c3;
         let mut slots: Vec<f64> = (0..lent).map(old).collect();
-        let number = made(recipe, &mut tag, &mut slots);
+        let number = made(recipe, single.careful, &mut tag, &mut slots);
         let due = if lent < SLOTS { 11 } else { 0 };
         self.counts.number(number);
         same_number("a section's refusal", number, due)?;
@@ -34,8 +37,11 @@ impl Judge {
                 )),
             };
         }
+        if let Some(ratio) = judged.ratio().filter(|_| single.careful) {
+            self.counts.ratio(ratio);
+        }
         same_record(tag, &slots[..SLOTS], &record, || "the section".into())?;
-        self.section_asked(tag, &slots[..SLOTS], &judged, asked)
+        self.section_asked(tag, &slots[..SLOTS], &judged, &single.asked)
     }
 
     pub(super) fn record(
@@ -45,7 +51,7 @@ impl Judge {
         entries: usize,
         asked: &[f64],
     ) -> Agreed {
-        let judged = oracle::section_of(record);
+        let judged = oracle::section_of(record).map(Section::original);
         self.counts.sections += 1;
         let due = match &judged {
             _ if entries < 3 => 11,
@@ -75,7 +81,7 @@ impl Judge {
         &mut self,
         tag: u16,
         slots: &[f64],
-        judged: &oracle::Section,
+        judged: &Section,
         asked: &[f64],
     ) -> Agreed {
         for &x in asked {
@@ -99,10 +105,11 @@ impl Judge {
     }
 }
 
-fn quadratic_made(part: &Quadratic, tag: &mut u16, slots: &mut [f64]) -> u8 {
+fn quadratic_made(part: &Quadratic, careful: bool, tag: &mut u16, slots: &mut [f64]) -> u8 {
     let &[a, b, c, d, e, f] = part.args();
     match part {
         Quadratic::Plain(_) => ffi::quadratic(a, b, c, d, e, f, tag, slots),
+        Quadratic::Min(_) if careful => ffi::quadratic_min_careful(a, b, c, d, e, f, tag, slots),
         Quadratic::Min(_) => ffi::quadratic_min(a, b, c, d, e, f, tag, slots),
     }
 }
@@ -118,19 +125,19 @@ fn convex_made(part: &Convex, tag: &mut u16, slots: &mut [f64]) -> u8 {
 }
 
 /// The library's section. A combination is put together from two records, as the header has it.
-fn made(recipe: &Recipe, tag: &mut u16, slots: &mut [f64]) -> u8 {
+fn made(recipe: &Recipe, careful: bool, tag: &mut u16, slots: &mut [f64]) -> u8 {
     match recipe {
         &Recipe::Constant([a, b, c]) => ffi::everywhere_constant(a, b, c, tag, slots),
         &Recipe::Gradient([a, b, c, d, e]) => ffi::constant_grad(a, b, c, d, e, tag, slots),
         Recipe::Convex(part) => convex_made(part, tag, slots),
-        Recipe::Quadratic(part) => quadratic_made(part, tag, slots),
+        Recipe::Quadratic(part) => quadratic_made(part, careful, tag, slots),
         Recipe::Combination(weight, quadratic, convex) => {
             let (mut other_tag, mut other) = (0, [0.0; SLOTS]);
             let number = convex_made(convex, tag, slots);
             if number != 0 {
                 return number;
             }
-            let number = quadratic_made(quadratic, &mut other_tag, &mut other);
+            let number = quadratic_made(quadratic, careful, &mut other_tag, &mut other);
             *tag += other_tag;
             slots[0] = *weight;
             slots[1..13].copy_from_slice(&other[1..13]);

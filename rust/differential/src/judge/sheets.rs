@@ -6,8 +6,10 @@ use havgrunel::lent::Sheet;
 use havgrunel::{MOST_POINTS, ffi};
 
 use super::{Agreed, Judge, Mismatch, built, due, method, same_float, same_number, same_tail};
+use crate::careful::Rule;
 use crate::case::Sheets;
 use crate::counts::CUTS_NOT_INNER;
+use crate::expected::Curve;
 use crate::lent::{Lent, marked, old};
 
 /// The document's number for a sheet with no given node.
@@ -16,9 +18,9 @@ const NO_GIVEN_NODE: u8 = 16;
 /// What a sheet answers: the total after it and the three numbers of the tail.
 const ANSWER: usize = 4;
 
-/// The original's whole.
+/// The whole that is due.
 struct Whole {
-    curve: oracle::Curve,
+    curve: Curve,
     nodes: Vec<f64>,
     totals: Vec<f64>,
 }
@@ -33,15 +35,15 @@ struct Piece<'a> {
     due: u8,
 }
 
-/// What the original says of the whole table, or its refusal by number.
-fn whole(case: &Sheets) -> Result<Whole, u8> {
+/// What the original says of the whole table, with its parabolas split by the rule that is due, or its refusal by number.
+fn whole(case: &Sheets, rule: Option<Rule>) -> Result<Whole, u8> {
     let table = &case.table;
     let (settings, x, y) = (&table.settings, &table.x, &table.y);
     let curve = built(settings, x, y, false, None)?;
     let nodes = oracle::nodes(settings, x, y, None).expect("a table that builds has nodes");
     let totals = oracle::totals(settings, x, y).expect("a table that builds has totals");
     Ok(Whole {
-        curve,
+        curve: Curve::new(curve, x, y, rule),
         nodes,
         totals,
     })
@@ -107,7 +109,7 @@ fn pieces<'a>(case: &'a Sheets, whole: Option<&Whole>, lent: &Lent) -> Vec<Piece
 impl Judge {
     pub(super) fn sheets(&mut self, case: &Sheets) -> Agreed {
         let (x, y) = (&case.table.x, &case.table.y);
-        let judged = whole(case);
+        let judged = whole(case, self.rule(case.table.careful));
         if let Ok(whole) = &judged {
             for &cut in &case.cuts {
                 let mine = ffi::inner_node(x[cut - 1], x[cut], x[cut + 1], y[cut], y[cut + 1]);
@@ -127,6 +129,12 @@ impl Judge {
             all &= self.in_order(case, &pieces, order, &judged)?;
         }
         self.counts.cut_whole += u64::from(all);
+        if let (true, Ok(whole)) = (all, &judged)
+            && let Some(splits) = whole.curve.splits()
+        {
+            self.counts.careful_cut += 1;
+            self.counts.splits(splits);
+        }
         for cuts in [&case.cuts, &case.others] {
             self.at_once(case, cuts, &judged)?;
         }
@@ -147,7 +155,7 @@ impl Judge {
             let piece = &pieces[number];
             let mut answer: Vec<f64> = (0..entries(case)).map(old).collect();
             let (buffers, ..) = self.lent.parts();
-            let method = method(&case.table.settings);
+            let method = method(&case.table.settings, case.table.careful);
             let told = ffi::sheet(piece.x, piece.y, method, piece.sheet, buffers, &mut answer);
             self.counts.sheets += 1;
             self.counts.number(told);
@@ -216,7 +224,7 @@ impl Judge {
     /// Builds the table with these cuts in one call.
     fn at_once(&mut self, case: &Sheets, cuts: &[usize], judged: &Result<Whole, u8>) -> Agreed {
         let (x, y) = (&case.table.x, &case.table.y);
-        let method = method(&case.table.settings);
+        let method = method(&case.table.settings, case.table.careful);
         self.lent.lend(x.len(), &case.room);
         let (buffers, sections, tail) = self.lent.parts();
         let number = ffi::build_in_sheets(x, y, method, cuts, buffers, sections, tail);

@@ -82,6 +82,12 @@ pub fn simpler_tables(table: &Table) -> Vec<Table> {
         less.y = without(&table.y, stretch);
         all.push(less);
     }
+    if table.careful {
+        all.push(Table {
+            careful: false,
+            ..table.clone()
+        });
+    }
     if table.hold {
         all.push(Table {
             hold: false,
@@ -127,6 +133,9 @@ fn simpler_steps(step: &Step, found: &Mismatch) -> Vec<Step> {
     };
     if step.room != Room::default() {
         with(&|step| step.room = Room::default());
+    }
+    if step.careful {
+        with(&|step| step.careful = false);
     }
     for settings in simpler_settings(&step.settings) {
         with(&|step| step.settings = settings);

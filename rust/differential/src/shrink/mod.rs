@@ -7,7 +7,7 @@ mod sheets;
 
 use std::panic::{self, AssertUnwindSafe};
 
-use crate::case::{Case, Room};
+use crate::case::{Case, Room, Single};
 use crate::judge::{Judge, Mismatch};
 use curves::{simpler_growths, simpler_queries, simpler_readings, simpler_tables};
 use numbers::{rounder, rounder_lists, rounder_places};
@@ -29,7 +29,7 @@ pub fn judged(judge: &mut Judge, case: &Case) -> Result<(), Mismatch> {
 
 /// The smallest case that can be found, and what differs in it.
 pub fn smallest(mut case: Case, mut found: Mismatch) -> (Case, Mismatch) {
-    let mut judge = Judge::new();
+    let mut judge = Judge::default();
     let mut tries = 0;
     let mut holds = |case: &Case, part: &str| {
         tries += 1;
@@ -71,23 +71,9 @@ fn simpler(case: &Case, found: &Mismatch) -> Vec<Case> {
             let simpler = simpler_sheets(sheets);
             all.extend(simpler.into_iter().map(Case::Sheets));
         }
-        Case::Section(recipe, lent, asked) => {
-            for asked in simpler_asked(asked, found) {
-                all.push(Case::Section(*recipe, *lent, asked));
-            }
-            let mut args = Vec::new();
-            let words = recipe_words(recipe);
-            for (place, &word) in words.iter().enumerate() {
-                for other in rounder(f64::from_bits(word)) {
-                    let mut words = words.clone();
-                    words[place] = other.to_bits();
-                    // A word that is a kind and no float does not read as another recipe of the same shape.
-                    args.extend(oracle::Recipe::read(&words).filter(|r| same_shape(r, recipe)));
-                }
-            }
-            for recipe in args {
-                all.push(Case::Section(recipe, *lent, asked.clone()));
-            }
+        Case::Section(single) => {
+            let singles = simpler_singles(single, found);
+            all.extend(singles.into_iter().map(Case::Section));
         }
         Case::Record(record, lent, answer, asked) => {
             for asked in simpler_asked(asked, found) {
@@ -101,6 +87,34 @@ fn simpler(case: &Case, found: &Mismatch) -> Vec<Case> {
         }
     }
     all.extend(rounder_places(case));
+    all
+}
+
+fn simpler_singles(single: &Single, found: &Mismatch) -> Vec<Single> {
+    let mut all = Vec::new();
+    let mut with = |change: &dyn Fn(&mut Single)| {
+        let mut less = single.clone();
+        change(&mut less);
+        all.push(less);
+    };
+    for asked in simpler_asked(&single.asked, found) {
+        with(&|less| less.asked.clone_from(&asked));
+    }
+    if single.careful {
+        with(&|less| less.careful = false);
+    }
+    let words = recipe_words(&single.recipe);
+    for (place, &word) in words.iter().enumerate() {
+        for other in rounder(f64::from_bits(word)) {
+            let mut words = words.clone();
+            words[place] = other.to_bits();
+            // A word that is a kind and no float does not read as another recipe of the same shape.
+            let read = oracle::Recipe::read(&words);
+            if let Some(recipe) = read.filter(|recipe| same_shape(recipe, &single.recipe)) {
+                with(&|less| less.recipe = recipe);
+            }
+        }
+    }
     all
 }
 

@@ -1,0 +1,12 @@
+//! The parts of the program that holds the proved library against the original: what is compared, drawn, judged, counted and made
+//! smaller. They are a library so that tests can judge by another rule.
+
+pub mod careful;
+pub mod case;
+pub mod counts;
+pub mod draw;
+mod expected;
+pub mod judge;
+mod lent;
+pub mod roots;
+pub mod shrink;
