@@ -9,7 +9,7 @@ import math
 import operator
 import sys
 from array import array
-from typing import Any, Callable, Iterable, Optional, SupportsFloat
+from typing import Any, Callable, Iterable, Optional, Sequence, SupportsFloat
 
 Many = Iterable[SupportsFloat]
 
@@ -116,6 +116,16 @@ def switch(x: Any, what: str) -> bool:
     if x is None or isinstance(x, (str, bytes)):
         raise TypeError(f"{what} is {_quoted(x)}, and True or False is meant")
     return bool(x)
+
+
+def word(x: Any, what: str, words: Sequence[str]) -> str:
+    """One of a few words, as it is written there."""
+    meant = f"{what} is {_quoted(x)}, and {' or '.join(map(repr, words))} is meant"
+    if not isinstance(x, str):
+        raise TypeError(meant)
+    if x not in words:
+        raise ValueError(meant)
+    return x
 
 
 def whole(x: Any, what: str) -> int:

@@ -6,7 +6,7 @@ subtraction and division.
 
 import bisect
 import math
-from dataclasses import dataclass, field
+from dataclasses import dataclass, field, replace
 from typing import Callable, Dict, List, NamedTuple, Optional, Sequence, Tuple, Union
 
 from .curve import Curve, Method
@@ -78,7 +78,8 @@ class Held:
 
 @dataclass
 class Answer:
-    """All that is answered of an order. `before` and `after` are lines that are told around the table."""
+    """All that is answered of an order. `before` and `after` are lines that are told around the table. `careful_keeps` says that a period lost its average
+    and that with the careful split none would."""
 
     order: Order
     curve: Curve
@@ -87,6 +88,7 @@ class Answer:
     before: List[str] = field(default_factory=list)
     after: List[str] = field(default_factory=list)
     not_finite: int = 0
+    careful_keeps: bool = False
 
     @property
     def lost(self) -> List[Held]:
@@ -100,11 +102,16 @@ class Answer:
 # ---- The curve and its rows ----
 
 
-def curve_of(order: Order) -> Curve:
-    """The curve of an order's table. A refusal is told with the line that caused it."""
+def method_of(order: Order) -> Method:
     s = order.settings
+    return Method(s["quadraticity"], s["monotonicity"], s["positivity"], s["split"])
+
+
+def curve_of(order: Order, method: Optional[Method] = None) -> Curve:
+    """The curve of an order's table, by the order's method where there is no other. A refusal is told with the line that caused it."""
+    s = order.settings
+    method = method or method_of(order)
     try:
-        method = Method(s["quadraticity"], s["monotonicity"], s["positivity"])
         return Curve(order.knots, order.averages, method, hold=bool(s["hold last period"]), extrapolate=bool(s["extrapolation"]))
     except Refused as refused:
         line = blamed(order, refused)
@@ -155,6 +162,7 @@ def answer(order: Order) -> Answer:
         rows = at_points(order, curve, asked) if isinstance(asked, Points) else over_rows(curve, asked)
         tables.append(Answered(asked, rows))
     found = Answer(order, curve, tables, holdings(order, curve))
+    found.careful_keeps = bool(found.lost) and careful_keeps(order)
     found.before = [f"{order.place(line)}: {what}" for line, what in order.doubts] + below_averages(order)
     found.not_finite, lines = not_finite(found)
     found.after = lines + below_prices(found)
@@ -173,6 +181,12 @@ def holdings(order: Order, curve: Curve) -> List[Held]:
         looked = look_inside(section, 0.0, k + 1, order.averages[k + 1], scale)
         found.append(looked if looked.kept else look_again(section, looked, scale))
     return found
+
+
+def careful_keeps(order: Order) -> bool:
+    """Whether the order has the original split, and would keep every average with the careful one."""
+    method = replace(method_of(order), split="careful")
+    return method != method_of(order) and all(one.kept for one in holdings(order, curve_of(order, method)))
 
 
 def look_inside(section: Section, gap: float, number: int, traded: float, scale: float) -> Held:

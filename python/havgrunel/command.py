@@ -10,6 +10,7 @@ asked:
     quadraticity: 0.3            # from 0 to 1
     monotonicity: 0.7            # from 0 to 1
     positivity: on               # on or off
+    split: original              # or careful: only where it keeps the average
     hold last period: off        # on: the last period is flat at its average
     extrapolation: off           # on: points outside the knots are answered
 
@@ -103,7 +104,7 @@ def parser_of(prog: str) -> argparse.ArgumentParser:
     instead.add_argument("--plot", metavar="SVG", help="draw the curve into this file instead ('-' is standard output)")
     instead.add_argument("--csv", metavar="FILE", help="write the table with every digit into this file instead ('-' is standard output)")
     instead.add_argument("--tsv", metavar="FILE", help="the same with tabs")
-    instead.add_argument("--bytes", metavar="FILE", help="write the order's bytes, as target/bin/curveorder takes them, into this file instead")
+    instead.add_argument("--bytes", metavar="FILE", help="write the order's bytes, as target/bin/curveorder takes them, into this file instead; a careful split has none")
     instead.add_argument("--exact", action="store_true", help="print each number so that it reads back as the same float")
     set_help = "a setting besides those of the text, as 'quadraticity: 0'; may be given several times"
     parser.add_argument("--set", metavar="SETTING", action="append", default=[], help=set_help)

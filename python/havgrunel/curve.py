@@ -32,6 +32,10 @@ def _default(setting: str) -> Any:
     return field(default_factory=asked)
 
 
+# When positivity splits a parabola: wherever the two tests of the original pass, or only where the period then keeps its average. The first is the default.
+SPLITS = ("original", "careful")
+
+
 @dataclass(frozen=True)
 class Method:
     """The settings of the method; what is left out is what the library itself takes.
@@ -39,16 +43,19 @@ class Method:
     quadraticity -- from 0 to 1: how much of each section is a parabola
     monotonicity -- from 0 to 1: how monotone the rest is
     positivity   -- whether prices are held above zero; docs/SHAPES.md says where that fails
+    split        -- "original", or "careful": positivity then splits no parabola that would lose its average by it
     """
 
     quadraticity: float = _default("quadraticity")
     monotonicity: float = _default("monotonicity")
     positivity: bool = _default("positivity")
+    split: str = SPLITS[0]
 
     def __post_init__(self) -> None:
         object.__setattr__(self, "quadraticity", _numbers.one(self.quadraticity, "the quadraticity"))
         object.__setattr__(self, "monotonicity", _numbers.one(self.monotonicity, "the monotonicity"))
         object.__setattr__(self, "positivity", _numbers.switch(self.positivity, "the positivity"))
+        object.__setattr__(self, "split", _numbers.word(self.split, "the split", SPLITS))
 
 
 class Tail(NamedTuple):
@@ -325,9 +332,10 @@ class Curve:
     def __repr__(self) -> str:
         settings = f"quadraticity {self._method.quadraticity:g}, monotonicity {self._method.monotonicity:g}"
         periods = len(self._tags)
+        split = ", careful split" if self._method.split == "careful" else ""
         return (
             f"<Curve of {periods} period{'s' * (periods != 1)} from {self._knots[0]:g} to {self._knots[-1]:g}, {settings}, "
-            f"positivity {'on' if self._method.positivity else 'off'}>"
+            f"positivity {'on' if self._method.positivity else 'off'}{split}>"
         )
 
     def __reduce__(self) -> Tuple[Any, ...]:
@@ -356,7 +364,7 @@ def _own(numbers: Many, what: str) -> "array[float]":
 
 
 def _table(xs: "array[float]", ys: "array[float]", method: Method) -> Tuple[Any, ...]:
-    return (*_lent(xs), *_lent(ys), method.quadraticity, method.monotonicity, method.positivity)
+    return (*_lent(xs), *_lent(ys), method.quadraticity, method.monotonicity, method.positivity, method.split == "careful")
 
 
 def _build_refusal(number: int, xs: "array[float]", ys: "array[float]", cuts: Iterable[int] = ()) -> None:

@@ -15,8 +15,15 @@ def points(order: Order) -> List[float]:
     return [x for asked in order.asked for x in (asked.at if isinstance(asked, Points) else asked.edges)]
 
 
+def only_original(order: Order) -> None:
+    """Stops at a careful split. The bytes have no place for it and mean the original's."""
+    if order.settings["split"] != "original":
+        raise order.bad(order.setting_lines["split"], "an order's bytes mean the original split, and there are none for a careful one")
+
+
 def order_bytes(order: Order, asked: Sequence[float]) -> bytes:
-    """The bytes: a header of four, then 64-bit floats, the most significant byte first."""
+    """The bytes: a header of four, then 64-bit floats, the most significant byte first. Raises Stop where the split is the careful one."""
+    only_original(order)
     s = order.settings
     flags = bool(s["positivity"]) << 31 | bool(s["hold last period"]) << 30 | bool(s["extrapolation"]) << 29
     numbers = [s["quadraticity"], s["monotonicity"], *order.knots, *order.averages, *asked]
@@ -25,6 +32,7 @@ def order_bytes(order: Order, asked: Sequence[float]) -> bytes:
 
 def whole(order: Order) -> bytes:
     """The bytes of the whole order. Raises Stop where one order cannot hold it."""
+    only_original(order)
     if len(order.knots) > MOST_KNOTS:
         raise order.bad(order.knot_lines[MOST_KNOTS], f"an order's bytes have at most {MOST_KNOTS} knots")
     count = 0

@@ -15,7 +15,7 @@ from xml.sax.saxutils import escape
 
 from .curve import Curve
 from .lettering import width, wrap
-from .text import METHOD, Order, Points, Rows, plain, show
+from .text import METHOD, Order, Points, Rows, in_words, plain, show
 from .ticks import Mark, fitting_numbers, moments, numbers
 
 Scale = Tuple[float, float]
@@ -403,14 +403,10 @@ def names(orders: Sequence[Order]) -> List[str]:
     if len(orders) == 1:
         return ["price at each moment"]
     differ = [key for key in METHOD if len({order.settings[key] for order in orders}) > 1]
-    found = [", ".join(told(key, order.settings[key]) for key in differ) for order in orders]
+    found = [", ".join(in_words(key, order.settings[key]) for key in differ) for order in orders]
     if len(set(found)) < len(found):
         return [f"{os.path.basename(order.name)}{': ' if name else ''}{name}" for order, name in zip(orders, found)]
     return found
-
-
-def told(key: str, value: object) -> str:
-    return f"{key} {plain(value)}" if isinstance(value, float) else f"{key} {'on' if value else 'off'}"
 
 
 def heading(shown: Content, low: float, high: float) -> Tuple[List[str], float]:

@@ -5,7 +5,7 @@ from typing import List, Sequence, Tuple
 
 from .answers import Answer, Answered, AtPoint, OverRow, period, short
 from .csvfile import POINT_NAMES, ROW_NAMES, full, written
-from .text import METHOD, Order, Points, Rows, needs_clock, plain, show
+from .text import METHOD, SETTINGS, Order, Points, Rows, in_words, needs_clock, plain, show
 
 # What the first column of rows is called.
 ROW_HEADS = {"daily": "day", "hourly": "hour"}
@@ -29,15 +29,10 @@ def of(count: int, noun: str) -> str:
     return f"{count} {noun}" if count == 1 else f"{count} {noun}s"
 
 
-def told(key: str, value: object) -> str:
-    """A setting in words."""
-    return f"{key} {plain(value)}" if isinstance(value, float) else f"{key} {'on' if value else 'off'}"
-
-
 def heading(order: Order) -> List[str]:
     """The title, where there is one, and the settings of the method."""
     s = order.settings
-    settings = [told(key, s[key]) for k, key in enumerate(METHOD) if k < 3 or s[key]]
+    settings = [in_words(key, s[key]) for k, key in enumerate(METHOD) if k < 3 or s[key] != SETTINGS[key][1]]
     return [*([str(s["title"])] if s["title"] else []), ", ".join([of(len(order.knots) - 1, "period"), *settings])]
 
 
@@ -111,7 +106,8 @@ def check(answer: Answer) -> List[str]:
         held = f"holds {form(one.held)}" if math.isfinite(one.held) else "has no finite total"
         lines.append(f"  {period(order, one.period)} traded at {form(one.traded)} and {held} (line {order.average_lines[one.period]})")
     if any(math.isfinite(one.held) for one in lost):
-        lines.append("  The rows around its ends carry the difference; docs/SHAPES.md says how to avoid this.")
+        way = "'split: careful' avoids this" if answer.careful_keeps else "docs/SHAPES.md says how to avoid this"
+        lines.append(f"  The rows around its ends carry the difference; {way}.")
     return lines
 
 

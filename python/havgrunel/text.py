@@ -7,6 +7,7 @@ from dataclasses import dataclass, field
 from fractions import Fraction
 from typing import Callable, Dict, List, Optional, Sequence, Tuple, Union
 
+from .curve import SPLITS
 from .faults import Bad, Stop, clipped, quoted
 from .periods import Item, items, number, unknown
 from .strips import Strip, distance, kind_of
@@ -122,6 +123,12 @@ def switch(value: str) -> bool:
     return value.lower() == "on"
 
 
+def split_rule(value: str) -> str:
+    if value.lower() not in SPLITS:
+        raise Bad(f"{quoted(value)} is neither {' nor '.join(map(quoted, SPLITS))}")
+    return value.lower()
+
+
 def not_read(value: str) -> str:
     if " ".join(value.lower().split()) != "not read":
         raise Bad(f"the first average can be said to be 'not read', and this says {quoted(value)}")
@@ -140,13 +147,22 @@ SETTINGS: Dict[str, Tuple[Callable[[str], object], object]] = {
     "quadraticity": (figure, 0.3),
     "monotonicity": (figure, 0.7),
     "positivity": (switch, True),
+    "split": (split_rule, SPLITS[0]),
     "hold last period": (switch, False),
     "extrapolation": (switch, False),
     "first average": (not_read, ""),
 }
 
-# Those that shape the curve. A table's heading tells the first three always and the others where they are on.
-METHOD = ["quadraticity", "monotonicity", "positivity", "hold last period", "extrapolation"]
+# Those that shape the curve. A table's heading tells the first three always and the others where they are not the default.
+METHOD = ["quadraticity", "monotonicity", "positivity", "split", "hold last period", "extrapolation"]
+
+
+def in_words(key: str, value: object) -> str:
+    """A setting that shapes the curve, as headings and legends tell it."""
+    if isinstance(value, str):
+        return f"{value} {key}"
+    return f"{key} {plain(value)}" if isinstance(value, float) else f"{key} {'on' if value else 'off'}"
+
 
 # A setting's line starts with words and a colon. What is asked and knots have a digit before any colon.
 SETTING = re.compile(r"\s*([^\W\d_][^\d:#]*):(.*)", re.DOTALL)

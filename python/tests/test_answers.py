@@ -104,7 +104,26 @@ class Kept(unittest.TestCase):
             ran.out.splitlines()[-4:-1],
             ["2 of 3 averages not kept:", "  0 to 1 traded at 5.0000 and holds 2.8796 (line 9)", "  1 to 2 traded at 3.0000 and holds 2.3333 (line 10)"],
         )
-        self.assertEqual(run(example("falling-month.txt")).out.splitlines()[-1], "all 3 averages kept")
+        self.assertEqual(ran.out.splitlines()[-1], "  The rows around its ends carry the difference; 'split: careful' avoids this.")
+        for name in "falling-month.txt", "falling-month-careful.txt":
+            self.assertEqual(run(example(name)).out.splitlines()[-1], "all 3 averages kept")
+
+    def test_the_careful_split_is_named_where_it_helps(self):
+        """Elsewhere the document is: an average below 0 is lost by either split."""
+        table = "0\n1 5\n2 3\n2.25 0.5\nat 0\n"
+        below = "0\n4 38\n8 45\n12 12\n16 -18\n20 64\n24 52\nat 0\n"
+        for text, last in (
+            (f"quadraticity: 0\n{table}", "'split: careful' avoids this."),
+            (f"quadraticity: 0\nhold last period: on\n{table}", "'split: careful' avoids this."),
+            (below, "docs/SHAPES.md says how to avoid this."),
+            (f"split: careful\n{below}", "docs/SHAPES.md says how to avoid this."),
+        ):
+            with self.subTest(text=text):
+                ran = run("-", text=text)
+                self.assertEqual((ran.status, ran.out.splitlines()[-1]), (4, f"  The rows around its ends carry the difference; {last}"))
+                lines = run("--csv", "-", "-", text=text).told.splitlines()
+                self.assertEqual(lines[-1], f"standard input: The rows around its ends carry the difference; {last}")
+        self.assertEqual(run("-", text=f"quadraticity: 0\nsplit: careful\n{table}").status, 0)
 
     def test_a_spike_in_the_last_day(self):
         """What a month lost is in the row that ends it, so that its rows still average what it traded at."""

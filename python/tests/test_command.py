@@ -71,12 +71,29 @@ class Tables(InAFolder):
         lines = run(WINTER).out.splitlines()
         self.assertEqual(lines[3], "day          average   price at its start   running total at its end")
 
+    def test_the_heading_tells_a_careful_split(self):
+        settings = "quadraticity 0, monotonicity 0.7, positivity"
+        for text, head in (
+            ("", f"1 period, {settings} on"),
+            ("split: original\n", f"1 period, {settings} on"),
+            ("split: careful\n", f"1 period, {settings} on, careful split"),
+            ("split: Careful\npositivity: off\nhold last period: on\n", f"1 period, {settings} off, careful split, hold last period on"),
+        ):
+            with self.subTest(text=text):
+                self.assertEqual(run("-", text=f"{text}quadraticity: 0\n{SHORT}").out.splitlines()[0], head)
+        self.assertEqual(run("--set", "split: careful", example("desk", "gas-months.csv")).out.splitlines()[0], "6 periods, quadraticity 0.3, monotonicity 0.7, positivity on, careful split")
+
+    def test_the_careful_split_on_the_command_line(self):
+        self.assertEqual(run("--set", "split: careful", example("falling-month-splits.txt")), run(example("falling-month-careful.txt")))
+        self.assertEqual(run("--set", "split: original", example("falling-month-splits.txt")), run(example("falling-month-splits.txt")))
+        self.assertEqual([row[1] for row in table_rows(run(example("falling-month-careful.txt")).out) if row[0] == "1.75"], ["2.3125"])
+
     def test_two_tables(self):
         out = run("-", text="2026-10 3\n2026-11 4\nat 2026-10-15\ndaily\n").out
         self.assertEqual(sum(line.startswith("---") for line in out.splitlines()), 2)
 
     def test_every_example(self):
-        lose = {"falling-month-splits.txt", "summer-gas-splits.txt", "power-negative-positivity.txt", "zero-hour.txt", "equal-months.txt"}
+        lose = {"falling-month-splits.txt", "summer-gas-splits.txt", "winter-gas-splits.txt", "flat-months.txt", "power-negative-positivity.txt", "zero-hour.txt", "equal-months.txt"}
         for name in sorted(os.listdir(EXAMPLES)):
             if name.endswith(".txt"):
                 with self.subTest(file=name):
@@ -150,6 +167,19 @@ class Files(InAFolder):
         self.assertEqual(self.read("worked.order")[-8:], struct.pack(">d", 28.0))
         self.assertEqual(run("--bytes", "-", "-", text="2026-10 3\n2026-11 4\n2026-12 3\ndaily\n").told, "standard input:4: an order's bytes ask for at most 64 points, and this asks for 93\n")
         self.assertEqual(run("--bytes", "-", "-", text="".join(f"{k} {k + 1} 1\n" for k in range(200)) + "at 0\n").told, "standard input:200: an order's bytes have at most 200 knots\n")
+
+    def test_a_careful_split_has_no_bytes(self):
+        said = "an order's bytes mean the original split, and there are none for a careful one"
+        careful = self.written("careful.txt", f"split: careful\n{SHORT}")
+        self.assertEqual(run("--bytes", self.path("a.order"), careful), (2, "", f"{careful}:1: {said}\n"))
+        self.assertFalse(os.path.exists(self.path("a.order")))
+        self.assertEqual(run("--bytes", "-", "--set", "split: careful", "-", text=SHORT), (2, "", f"standard input: --set 'split: careful': {said}\n"))
+        many = "split: careful\n" + "".join(f"{k} {k + 1} 1\n" for k in range(200)) + "at 0\n"
+        self.assertEqual(run("--bytes", "-", "-", text=many), (2, "", f"standard input:1: {said}\n"))
+        plain, original = (run("--bytes", self.path(name), self.written("order.txt", f"{text}{SHORT}")) for name, text in (("b.order", ""), ("c.order", "split: original\n")))
+        self.assertEqual((plain, original, self.read("b.order")), ((0, "", ""), (0, "", ""), self.read("c.order")))
+        self.assertEqual(run("--bytes", self.path("b.order"), careful).status, 2)
+        self.assertEqual(self.read("b.order"), self.read("c.order"))
 
     def test_pictures(self):
         self.assertEqual(run("--plot", self.path("a.svg"), "--scale", "0:50", WINTER), (0, "", ""))

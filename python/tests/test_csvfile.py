@@ -95,8 +95,9 @@ class In(unittest.TestCase):
                 self.assertEqual((stopped.exception.status, stopped.exception.lines[0][: len(start)]), (2, start))
 
     def test_options(self):
-        order = read("0;9\n2;2\n", sets=["first average: not read", "positivity: off"], asks=["at 1"])
+        order = read("0;9\n2;2\n", sets=["first average: not read", "positivity: off", "split: careful"], asks=["at 1"])
         self.assertEqual((order.averages, order.settings["positivity"], order.asked[0].at), ([9.0, 2.0], False, [1.0]))
+        self.assertEqual((order.settings["split"], read("0;2\n2;2\n", sets=["first average: not read"]).settings["split"]), ("careful", "original"))
 
 
 class Out(InAFolder):

@@ -13,6 +13,8 @@ import havgrunel
 from havgrunel import MOST_POINTS, SLOTS, Curve, Method, Refused
 
 THREE = ([0.0, 1.0, 2.0], [0.0, 1.0, 3.0], Method(0.0, 1.0, False))
+# The second month has the nodes 4 and 1 and traded at 3.
+FALLING = ([0.0, 1.0, 2.0, 2.25], [0.0, 5.0, 3.0, 0.5])
 GROWING = ([0.0, 1.0, 2.5, 3.0, 5.0], [0.0, 1.0, 3.0, 2.0, 2.5])
 
 
@@ -70,6 +72,7 @@ class Building(Refusing):
         self.assertEqual(Method(), Method(0.3, 0.7, True))
         self.assertEqual(Curve([0, 1], [0, 1]).method, Method())
         self.assertEqual(Method(monotonicity=1), Method(0.3, 1.0, True))
+        self.assertEqual((Method().split, Method(0.3, 0.7, True, "original")), ("original", Method()))
 
     def test_what_was_given_is_copied(self):
         knots, averages = array("d", THREE[0]), array("d", THREE[1])
@@ -104,6 +107,11 @@ class Building(Refusing):
             Method("0.3")
         with self.assertRaisesRegex(TypeError, "the positivity is 'off', and True or False is meant"):
             Method(positivity="off")
+        with self.assertRaisesRegex(ValueError, "^the split is 'Careful', and 'original' or 'careful' is meant$"):
+            Method(split="Careful")
+        for split in True, None, b"careful":
+            with self.assertRaisesRegex(TypeError, "^the split is .*, and 'original' or 'careful' is meant$"):
+                Method(split=split)
 
 
 class Asking(Refusing):
@@ -226,6 +234,82 @@ class Sections(unittest.TestCase):
         self.assertEqual((caught.exception.number, caught.exception.name), (15, "RECORD_NOT_LEGAL"))
 
 
+class Splits(unittest.TestCase):
+    """The careful split beside the original one."""
+
+    def held(self, curve):
+        return [(s.primitive(s.x_next) - s.primitive(s.x_prev)) / (s.x_next - s.x_prev) for s in curve.sections]
+
+    def test_the_falling_month(self):
+        original, careful = (Curve(*FALLING, Method(quadraticity=0.0, split=split)) for split in ("original", "careful"))
+        self.assertEqual((original.nodes[1:3], careful.nodes), (array("d", [4.0, 1.0]), original.nodes))
+        self.assertEqual([s.kind for s in careful.sections], [s.kind for s in original.sections])
+        self.assertEqual(([s.split for s in original.sections[:2]], [s.split for s in careful.sections[:2]]), ([True, True], [False, False]))
+        self.assertEqual((original.value(1.75), careful.value(1.75)), (1.5625, 2.3125))
+        for curve, due in (original, [2.8796, 2.3333, 0.5]), (careful, [5.0, 3.0, 0.5]):
+            self.assertEqual([round(held, 4) for held in self.held(curve)], due)
+
+    def test_a_split_that_is_needed_is_the_same(self):
+        """A period from 4 to 4 that averages 1 falls below 0. Both split it, to the same section."""
+        table = [0.0, 1.0, 2.0, 3.0], [0.0, 7.0, 1.0, 7.0]
+        for quadraticity in 0.0, 0.3, 1.0:
+            original, careful = (Curve(*table, Method(quadraticity, split=split)).sections[1] for split in ("original", "careful"))
+            self.assertEqual((original, original.split), (careful, True))
+
+    def test_a_curve_that_nothing_splits_is_the_same(self):
+        for seed in range(40):
+            table, quadraticity, monotonicity = drawn(seed, 12), (seed % 4) / 4, (seed % 5) / 5
+            plain, original, careful = (Curve(*table, Method(quadraticity, monotonicity, *more)) for more in ((False, "careful"), (True,), (True, "careful")))
+            self.assertEqual(bits(plain._slots), bits(Curve(*table, Method(quadraticity, monotonicity, False))._slots))
+            self.assertEqual(bits(original.nodes), bits(careful.nodes))
+            for one, other in zip(original.sections, careful.sections):
+                self.assertTrue(one.split or bits(one.slots) == bits(other.slots))
+                self.assertFalse(other.split and not one.split)
+                self.assertEqual(one.kind, other.kind)
+
+    def test_averages_that_are_kept(self):
+        for seed in range(200):
+            knots, averages = drawn(seed, 12)
+            curve = Curve(knots, averages, Method(0.0, (seed % 10) / 10, split="careful"))
+            for held, traded in zip(self.held(curve), averages[1:]):
+                self.assertAlmostEqual(held, traded, delta=1e-9 * max(averages))
+            self.assertGreaterEqual(min(curve.values([knots[-1] * k / 500 for k in range(500)])), -1e-9 * max(averages))
+
+    def test_the_cheap_first_month_is_not_cured(self):
+        """The end node is at 0, rounding fails the second test, and neither mode splits."""
+        table = [0, 28, 56, 85], [0, 0.62, 59.03, 47.69]
+        for quadraticity in 0.3, 1.0:
+            original, careful = (Curve(*table, Method(quadraticity, split=split)) for split in ("original", "careful"))
+            self.assertEqual(original.sections, careful.sections)
+            self.assertLess(careful.value(9), -2.7)
+
+    def test_a_convex_monotone_split_is_the_same(self):
+        """An average below 0: the careful split leaves the parabola whole and changes no convex monotone piece."""
+        table = [0.0, 1.0, 2.0, 3.0], [0.0, 3.0, -1.0, 3.0]
+        for quadraticity in 0.0, 0.3:
+            original, careful = (Curve(*table, Method(quadraticity, split=split)).sections[1] for split in ("original", "careful"))
+            self.assertTrue(original.tag & careful.tag & 1 << 7)
+            # The slots behind the weight and the parabola's twelve are those of the other part.
+            self.assertEqual(bits(original.slots[13:]), bits(careful.slots[13:]))
+            self.assertEqual((bool(original.tag & 1 << 12), bool(careful.tag & 1 << 12)), (quadraticity > 0, False))
+
+    def test_growth_and_sheets_keep_the_mode(self):
+        method = Method(quadraticity=0.0, split="careful")
+        for seed in range(10):
+            knots, averages = drawn(seed, 30)
+            whole = Curve(knots, averages, method)
+            for cuts in ((), (10, 20), range(1, 30)):
+                parts = Curve.in_sheets(knots, averages, cuts, method)
+                self.assertEqual((parts.method, bits(parts.nodes), parts.tail), (method, bits(whole.nodes), whole.tail))
+                self.assertEqual(pickle.dumps(parts.sections), pickle.dumps(whole.sections))
+        grown = Curve.first_window(FALLING[0][:3], FALLING[1][:3], 2, 4, method)
+        self.assertEqual(grown.sections, Curve(FALLING[0][:3], FALLING[1][:3], method, hold=True).sections)
+        grown = grown.grow(*FALLING, 2, 4)
+        self.assertEqual((grown.method, [s.split for s in grown.sections[:2]]), (method, [False, False]))
+        other = Curve.first_window(FALLING[0][:3], FALLING[1][:3], 2, 4, Method(quadraticity=0.0)).grow(*FALLING, 2, 4)
+        self.assertEqual([s.split for s in other.sections[:2]], [True, True])
+
+
 class Growing(Refusing):
     def part(self, count):
         return GROWING[0][:count], GROWING[1][:count]
@@ -270,12 +354,18 @@ class InSheets(Refusing):
 
 class Objects(unittest.TestCase):
     def test_pickle_and_copy(self):
-        curve = Curve(*drawn(5, 40), Method(0.2, 0.9, False), hold=True, extrapolate=True)
+        curve = Curve(*drawn(5, 40), Method(0.2, 0.9, False, "careful"), hold=True, extrapolate=True)
         for other in (pickle.loads(pickle.dumps(curve)), copy.copy(curve), copy.deepcopy(curve)):
             self.assertEqual((other.knots, other.traded, other.nodes), (curve.knots, curve.traded, curve.nodes))
             self.assertEqual((other.tail, other.method, other.hold, other.extrapolate), (curve.tail, curve.method, True, True))
             self.assertEqual(other.sections, curve.sections)
             self.assertEqual(other.values([-1.0, 3.0, 1e6]), curve.values([-1.0, 3.0, 1e6]))
+
+    def test_a_method_that_was_pickled_before_there_was_a_split(self):
+        method = Method(0.2, 0.9, False)
+        old = Method.__new__(Method)
+        old.__dict__.update({name: value for name, value in vars(method).items() if name != "split"})
+        self.assertEqual((old, old.split), (method, "original"))
 
     def test_a_refusal_is_pickled(self):
         refusal = pickle.loads(pickle.dumps(Refused(13, 4)))
@@ -286,6 +376,8 @@ class Objects(unittest.TestCase):
 
     def test_repr(self):
         self.assertEqual(repr(Curve(*THREE)), "<Curve of 2 periods from 0 to 2, quadraticity 0, monotonicity 1, positivity off>")
+        careful = Curve(*FALLING, Method(split="careful"))
+        self.assertEqual(repr(careful), "<Curve of 3 periods from 0 to 2.25, quadraticity 0.3, monotonicity 0.7, positivity on, careful split>")
 
     def test_a_curve_does_not_change(self):
         curve = Curve(*THREE)

@@ -7,6 +7,7 @@ import subprocess
 import sys
 import tempfile
 import unittest
+import unittest.mock
 
 import havgrunel
 from havgrunel import _library, refusals
@@ -55,7 +56,7 @@ def header():
 class Declarations(unittest.TestCase):
     def test_they_are_the_header_s(self):
         functions = header()
-        self.assertEqual(len(functions), 24)
+        self.assertEqual(len(functions), 25)
         for name, declared in _library.DECLARED.items():
             self.assertEqual(declared, functions[name], name)
 
@@ -79,6 +80,13 @@ class Declarations(unittest.TestCase):
 
 
 class Finding(unittest.TestCase):
+    def test_a_library_that_lacks_a_function(self):
+        """One from before the careful split lacks its function. Its builds take an argument less, and must not be called."""
+        self.assertIn("havgrunel_quadratic_min_careful", _library.DECLARED)
+        with unittest.mock.patch.dict(_library.DECLARED, {"havgrunel_of_later": (ctypes.c_bool, [])}):
+            with self.assertRaisesRegex(havgrunel.LibraryMissing, "is not the library of this package: it has no function havgrunel_of_later"):
+                _library._opened(_library.load()._name)
+
     def test_the_variable_names_it(self):
         library = _library.load()._name
         code = "import havgrunel; print(havgrunel.sqrt(4), havgrunel._library.load()._name)"

@@ -81,6 +81,16 @@ class Words(unittest.TestCase):
                 self.check_apart(svg)
                 self.check_heading_is_above(svg)
 
+    def test_curves_go_by_their_splits(self) -> None:
+        self.assertIn("careful split", texts_of(drawn(MONTHS, "split: careful\n" + MONTHS)))
+        self.assertIn("original split", texts_of(drawn(MONTHS, "split: careful\n" + MONTHS)))
+        three = drawn("quadraticity: 0.3\n" + MONTHS, "quadraticity: 0\n" + MONTHS, "quadraticity: 0\nsplit: careful\n" + MONTHS)
+        for name in "quadraticity 0.3, original split", "quadraticity 0, original split", "quadraticity 0, careful split":
+            self.assertIn(name, texts_of(three))
+        self.assertFalse(any("split" in text for text in texts_of(drawn("split: careful\n" + MONTHS, "split: careful\nquadraticity: 0\n" + MONTHS))))
+        self.check_apart(three)
+        self.check_heading_is_above(three)
+
     def test_a_title_is_told_whole_where_it_is_cut(self) -> None:
         title = "word " * 300 + "end"
         root = ElementTree.fromstring(drawn(f"title: {title}\n" + MONTHS))
@@ -331,7 +341,12 @@ def contrast(a: Colour, b: Colour) -> float:
 class Tools(unittest.TestCase):
     def test_the_command_draws_the_pictures(self) -> None:
         """What tools/pictures draws by the package is what the command draws."""
-        for name, orders in {"winter-gas": ["winter-gas"], "falling-month": ["falling-month", "falling-month-splits"]}.items():
+        pictures = {
+            "winter-gas": ["winter-gas"],
+            "falling-month": ["falling-month", "falling-month-splits", "falling-month-careful"],
+            "winter-splits": ["winter-gas-splits", "winter-gas-careful"],
+        }
+        for name, orders in pictures.items():
             files = [os.path.join("examples", f"{order}.txt") for order in orders]
             done = subprocess.run([sys.executable, "order", "--plot", "-", *files], cwd=HOME, stdout=subprocess.PIPE, stderr=subprocess.DEVNULL)
             with open(os.path.join(HOME, "docs", "pictures", f"{name}.svg"), "rb") as file:

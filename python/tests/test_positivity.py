@@ -1,4 +1,4 @@
-"""What docs/SHAPES.md says of a cheap first or last month, on fewer strips than tools/below-zero draws."""
+"""What docs/SHAPES.md says of a cheap first or last month and of the two splits, on fewer strips than tools/below-zero draws."""
 
 import importlib.machinery
 import importlib.util
@@ -25,12 +25,13 @@ class Positivity(unittest.TestCase):
     KNOTS, AVERAGES = [0, 28, 56, 85], [0, 0.62, 59.03, 47.69]
 
     def test_the_cheap_first_month(self) -> None:
-        for quadraticity, lowest in (0.0, 0.0), (0.3, -2.7358), (1.0, -9.1195):
-            curve = Curve(self.KNOTS, self.AVERAGES, Method(quadraticity=quadraticity))
-            prices = curve.values([28 * k / 10000 for k in range(10001)])
-            self.assertEqual(round(min(prices), 4), lowest)
-            section = curve.sections[0]
-            self.assertAlmostEqual(section.primitive(28.0) / 28, 0.62, places=12)
+        for split in "original", "careful":
+            for quadraticity, lowest in (0.0, 0.0), (0.3, -2.7358), (1.0, -9.1195):
+                curve = Curve(self.KNOTS, self.AVERAGES, Method(quadraticity=quadraticity, split=split))
+                prices = curve.values([28 * k / 10000 for k in range(10001)])
+                self.assertEqual(round(min(prices), 4), lowest)
+                section = curve.sections[0]
+                self.assertAlmostEqual(section.primitive(28.0) / 28, 0.62, places=12)
 
     def test_a_month_more_changes_no_other_month(self) -> None:
         curve = Curve(self.KNOTS, self.AVERAGES)
@@ -47,19 +48,41 @@ class Positivity(unittest.TestCase):
 
     def test_drawn_strips(self) -> None:
         below_zero = tool()
-        for kind in below_zero.calm, below_zero.wild:
+        for kind in below_zero.calm, below_zero.wild, below_zero.alike:
             found = below_zero.count(700, "of the test", kind)
-            with self.subTest(kind.__name__):
-                self.assertEqual(found.below[0.0], 0)
-                self.assertEqual(set(found.elsewhere.values()), {0})
-                self.assertEqual((found.longer_alike, found.longer_other), (0, 0))
-                self.assertGreater(found.losing, 350)
-                if kind is below_zero.calm:
-                    self.assertEqual((found.steep, found.below[0.3], found.below[1.0]), (0, 0, 0))
-                else:
-                    for q, most in (0.3, 0.1), (1.0, 1 / 3):
-                        self.assertTrue(0.2 * found.steep < found.below[q] < 0.35 * found.steep)
-                        self.assertLess(found.deepest[q], most)
+            for (q, split), seen in found.seen.items():
+                with self.subTest(kind=kind.__name__, quadraticity=q, split=split):
+                    self.assertEqual((seen.elsewhere, seen.longer_alike, seen.longer_other), (0, 0, 0))
+                    if (q, split) == (0.0, "original"):
+                        self.assertGreater(seen.losing, 200)
+                        self.assertGreater(seen.most, 0.5)
+                    elif split == "original" and kind is below_zero.alike:
+                        self.assertGreater(seen.losing, 0)
+                    else:
+                        self.assertEqual(seen.losing, 0)
+                        self.assertLess(seen.most, 1e-9)
+                    if q == 0.0 or kind is below_zero.calm:
+                        self.assertEqual((seen.below, seen.lowest), (0, 0.0))
+                    else:
+                        self.assertTrue(0.2 * found.steep < seen.below < 0.35 * found.steep or kind is below_zero.alike)
+                        self.assertLess(seen.deepest, {0.3: 0.1, 1.0: 1 / 3}[q])
+            if kind is below_zero.calm:
+                self.assertEqual(found.steep, 0)
+
+    def test_odd_strips(self) -> None:
+        for (q, split), (losing, below) in tool().odd_count(250, "of the test").items():
+            with self.subTest(quadraticity=q, split=split):
+                if split == "careful":
+                    self.assertEqual(losing, 0)
+                elif q == 0.0:
+                    self.assertGreater(losing, 50)
+                self.assertEqual(below > 0, q > 0)
+
+    def test_months_alike(self) -> None:
+        """Three months at one price, at the defaults: rounding splits March, unless the split is the careful one."""
+        for split, due in ("original", 72.1324), ("careful", 85.42):
+            march = Curve([0, 28, 59, 89], [0, 85.42, 85.42, 85.42], Method(split=split)).sections[1]
+            self.assertEqual(round((march.primitive(59.0) - march.primitive(28.0)) / 31, 4), due)
 
 
 if __name__ == "__main__":

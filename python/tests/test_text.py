@@ -12,7 +12,7 @@ POINT_SIGN = "the decimal sign is a point, and digits are not grouped"
 FIRST = "the first knot has an average, and no period ends there"
 NAMES = "a line is a period and its price, or START END PRICE; periods are 2026-10, Oct-26, 2026-Q4, Q4-26, winter 2026, Win-26, summer 2027, Sum-27, 2027, Cal-27"
 NOTHING = "nothing is asked: a line 'daily', 'hourly', 'every STEP', or 'at' with points, is missing"
-SETTINGS = "title, price, time, quadraticity, monotonicity, positivity, hold last period, extrapolation, first average"
+SETTINGS = "title, price, time, quadraticity, monotonicity, positivity, split, hold last period, extrapolation, first average"
 
 # What is wrong with a text, where that is said, and how.
 BAD = [
@@ -95,6 +95,11 @@ BAD = [
     ("0\nquadraticity: 1\n1 2\nat 0\n", 2, "settings come before the first knot"),
     ("positivity: on\nPOSITIVITY: off\n", 2, "'positivity' is set twice, first in line 1"),
     ("positivity: yes\n", 1, "'yes' is neither 'on' nor 'off'"),
+    ("split: on\n", 1, "'on' is neither 'original' nor 'careful'"),
+    ("split:\n", 1, "'' is neither 'original' nor 'careful'"),
+    ("split: careful\n\nSplit: original\n", 3, "'split' is set twice, first in line 1"),
+    ("split careful\n0\n1 2\n", 1, "'split' is a setting, and a colon stands behind it: split: careful"),
+    ("0\nsplit: careful\n1 2\nat 0\n", 2, "settings come before the first knot"),
     ("title:\n", 1, "the setting has no value"),
     ("quadraticity:\n", 1, "'' is not a number"),
     ("convexity: 1\n", 1, f"there is no setting 'convexity'; there are: {SETTINGS}"),
@@ -121,6 +126,8 @@ class Wrong(unittest.TestCase):
         cases = [
             ({"sets": ["convexity: 1"]}, "x: --set 'convexity: 1': there is no setting 'convexity'"),
             ({"sets": ["positivity"]}, "x: --set 'positivity': a setting is a key, a colon and a value"),
+            ({"sets": ["split: never"]}, "x: --set 'split: never': 'never' is neither 'original' nor 'careful'"),
+            ({"sets": ["split: careful", "split: original"]}, "x: --set 'split: original': 'split' is set twice, first by --set 'split: careful'"),
             ({"sets": ["price: EUR"]}, "x:1: 'price' is set twice, first by --set 'price: EUR'"),
             ({"asks": ["weekly"]}, "x: --ask 'weekly': what is asked is 'daily', 'hourly', 'every STEP' or 'at POINT ..'"),
             ({"asks": ["at 2026-10"]}, "x: --ask 'at 2026-10': '2026-10' is a period"),
@@ -206,6 +213,12 @@ class Read(unittest.TestCase):
         self.assertEqual((s["title"], s["price"], s["positivity"], s["hold last period"], s["quadraticity"]), ("Gas #1", "#/MWh", False, True, 0.0))
         self.assertEqual(order.averages, [0.0, -2.5])
         self.assertEqual(order.setting_lines["positivity"], 3)
+
+    def test_the_split(self):
+        for text, split in ("", "original"), ("split: original\n", "original"), ("split: careful # only\n", "careful"), ("SPLIT: Careful\n", "careful"):
+            with self.subTest(text=text):
+                self.assertEqual(read(f"{text}0\n1 2\nat 0\n").settings["split"], split)
+        self.assertEqual(read("0\n1 2\nat 0\n", sets=["split: careful"]).settings["split"], "careful")
 
     def test_signs_that_editors_write(self):
         order = read("\ufefftitle: x\r\n2026-10\u00a029.40\r\n\r\ndaily\r\n")
