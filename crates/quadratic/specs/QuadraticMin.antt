@@ -1,5 +1,5 @@
 -- 000, QuadraticMinHelper
-use mathlib.Core.Bool.{Bool, true, false, cond, _&&_}
+use mathlib.Core.Bool.{Bool, true, false, cond, _&&_, _||_}
 use lib.Ieee.{Float, le, lt, neg}
 use Rattle.numbers.specs.Words.{_⊕_, _⊖_, _⊗_, _⊘_, zero, one, two, four, twentyFour, thirtySix}
 use Rattle.root.specs.Root.{root}
@@ -80,6 +80,15 @@ module _ («x_prev» «x_next» «f_prev» «f_next» «f_average» «prev_primi
   careful =
       let touching = «av_root» «f_prev» «f_next» in
       cond (splits «f_prev» «f_next» «f_average» && inPeriod («f_average» ⊘ touching)) (split touching) unsplit
+
+-- steps of the code: either rule, by whether any ratio will do
+module _ (any : Bool) («x_prev» «x_next» «f_prev» «f_next» «f_average» «prev_primitive» : Float) where
+  unfoldable pub splitAt : QuadraticMin
+  splitAt =
+      let touching = «av_root» «f_prev» «f_next» in
+      cond (splits «f_prev» «f_next» «f_average» && (any || inPeriod («f_average» ⊘ touching)))
+      (split «x_prev» «x_next» «f_prev» «f_next» «f_average» «prev_primitive» touching)
+      (unsplit «x_prev» «x_next» «f_prev» «f_next» «f_average» «prev_primitive»)
 
 module _ (s : QuadraticMin) where
   open QuadraticMin s using («split_region», x1, x2, x3, x4, a, b, c, primitive1, primitive2, «x_scaling», «x_ratio»)

@@ -4,7 +4,8 @@ use crate::parabola::a_of;
 use crate::parabola::b_of;
 use crate::parabola::under;
 ghost use mathlib.Core.Path.{_≡_};
-ghost use Rattle.quadratic.specs.QuadraticMin.{new, value, primitive, «f_next», «b_av», «d_av», «av_root», splits, inPeriod, split, unsplit, careful, «value_at», «primitive_at»};
+ghost use mathlib.Core.Bool.{_||_};
+ghost use Rattle.quadratic.specs.QuadraticMin.{new, value, primitive, «f_next», «b_av», «d_av», «av_root», splits, inPeriod, splitAt, split, unsplit, careful, «value_at», «primitive_at»};
 
 pub struct QuadraticMin {
     pub split_region: bool,
@@ -58,14 +59,18 @@ fn splits(f_prev: f64, f_next: f64, f_average: f64) -> bool
     false
 }
 
-// Whether a split parabola of this ratio is no longer than its period. A NaN is not above 0.
-fn in_period(x_ratio: f64) -> bool
-    ensures { λ r. ⌜ r ≡ inPeriod «x_ratio» ⌝ }
+// Whether a parabola that passes both tests is split at this ratio: at any, or only where it is then no longer than its period. A NaN is not above 0.
+fn ratio_passes(any: bool, x_ratio: f64) -> bool
+    ensures { λ r. ⌜ r ≡ (any || inPeriod «x_ratio») ⌝ }
 {
+    if any {
+        return true;
+    }
     0.0 < x_ratio && x_ratio <= 1.0
 }
 
 impl QuadraticMin {
+    // The original's rule: split wherever both tests pass.
     pub fn new(
         x_prev: f64,
         x_next: f64,
@@ -76,19 +81,15 @@ impl QuadraticMin {
     ) -> Self
         ensures { λ r. ⌜ r ≡ new «x_prev» «x_next» «f_prev» «f_next» «f_average» «prev_primitive» ⌝ }
     {
-        if splits(f_prev, f_next, f_average) {
-            let touching = av_root(f_prev, f_next);
-            return Self::split(
-                x_prev,
-                x_next,
-                f_prev,
-                f_next,
-                f_average,
-                prev_primitive,
-                touching,
-            );
-        }
-        Self::unsplit(x_prev, x_next, f_prev, f_next, f_average, prev_primitive)
+        Self::by_ratio(
+            true,
+            x_prev,
+            x_next,
+            f_prev,
+            f_next,
+            f_average,
+            prev_primitive,
+        )
     }
 
     // The careful split: only a parabola that is then no longer than its period, because a longer one loses the average.
@@ -102,10 +103,33 @@ impl QuadraticMin {
     ) -> Self
         ensures { λ r. ⌜ r ≡ careful «x_prev» «x_next» «f_prev» «f_next» «f_average» «prev_primitive» ⌝ }
     {
+        Self::by_ratio(
+            false,
+            x_prev,
+            x_next,
+            f_prev,
+            f_next,
+            f_average,
+            prev_primitive,
+        )
+    }
+
+    // Both rules in one place, so that the root is there once: it is long, and the compiler puts it in line only where it has one caller.
+    fn by_ratio(
+        any: bool,
+        x_prev: f64,
+        x_next: f64,
+        f_prev: f64,
+        f_next: f64,
+        f_average: f64,
+        prev_primitive: f64,
+    ) -> Self
+        ensures { λ r. ⌜ r ≡ splitAt any «x_prev» «x_next» «f_prev» «f_next» «f_average» «prev_primitive» ⌝ }
+    {
         let tests_pass = splits(f_prev, f_next, f_average);
         if tests_pass {
             let touching = av_root(f_prev, f_next);
-            if in_period(f_average / touching) {
+            if ratio_passes(any, f_average / touching) {
                 return Self::split(
                     x_prev,
                     x_next,

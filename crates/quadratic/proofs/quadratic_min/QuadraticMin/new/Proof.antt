@@ -1,28 +1,22 @@
--- `QuadraticMin::new` meets its contract: the split rule decides which record is made.
+-- `QuadraticMin::new` meets its contract: any ratio will do.
+use mathlib.Core.Bool.{Bool, true, false, _&&_}
+use mathlib.Core.Path.{_≡_, refl, ap, _∙_}
 use borrow.Author.Needs.{needs}
-use Rattle.quadratic.specs.QuadraticMin.{new}
+use Rattle.quadratic.specs.QuadraticMin.{new, splits, splitAt}
 use Rattle.quadratic.proofs.quadratic_min.QuadraticMin.new.Statement.{statement}
 use Rattle.quadratic.proofs.quadratic_min.QuadraticMin.new.Tie as tie
 
-splits-requires : tie.Need-splits-requires
-splits-requires c κs = search needs
+-- a test and one that always passes
+alone : (b : Bool) → b && true ≡ b
+alone true = refl
+alone false = refl
 
-av-root-requires : tie.Need-av-root-requires
-av-root-requires c κs = search needs
-
-split-requires : tie.Need-split-requires
-split-requires c κs = search needs
+by-ratio-requires : tie.Need-by-ratio-requires
+by-ratio-requires c κs = search needs
 
 returns : tie.Need-returns
-unfolding new
-returns c = rw (← c .before .before .before .splits .ensures, c .before .before .if1 .taken, ← c .before .av-root .ensures) (c .split .ensures)
-
-unsplit-requires : tie.Need-unsplit-requires
-unsplit-requires c κs = search needs
-
-returns-2 : tie.Need-returns-2
-unfolding new
-returns-2 c = rw (← c .before .before .splits .ensures, c .before .if1 .left) (c .unsplit .ensures)
+unfolding new splitAt
+returns c = let a = c .before .args in rw (← alone (splits (a .f-prev) (a .f-next) (a .f-average))) (c .by-ratio .ensures)
 
 pub new-spec : {M : Type 1} → statement M
-new-spec = tie.close (tie.spec splits-requires av-root-requires split-requires returns unsplit-requires returns-2)
+new-spec = tie.close (tie.spec by-ratio-requires returns)
