@@ -2,7 +2,7 @@
 use Prim.Native.Nat as nat
 use Prim.Native.Nat.{ℕ, suc, _+_, _-_, _*_, _≤_, _<_}
 use native.Mathlib.Omega.{arith}
-use mathlib.Core.Bool.{Bool, true, false, cond, _&&_}
+use mathlib.Core.Bool.{true, _&&_}
 use mathlib.Core.List.{List}
 use mathlib.Core.Path.{_≡_, refl, ap, _∙_}
 use lib.Dec.{eqb}
@@ -12,6 +12,7 @@ use Rattle.numbers.specs.Sizes.{slotCount}
 use Rattle.numbers.specs.Words.{_⊕_, _⊖_, _⊗_, finite, zero}
 use Rattle.numbers.proofs.Every.{all-at}
 use Rattle.numbers.proofs.Sums.{length-from-zero}
+use Rattle.numbers.proofs.Ways.{of-both}
 use Rattle.section.specs.declared.section.Section.{Section}
 use Rattle.table.specs.Check.{allFinite, rising}
 use Rattle.table.specs.Method.{withSplit}
@@ -28,10 +29,6 @@ use Rattle.assembly.specs.Careful.{WithinAt}
 use Rattle.assembly.specs.Making.{tagsAfter, slotsAfter}
 use Rattle.assembly.specs.Sections.{periodAt, shapedAt, heldAt, sectionAt}
 use Rattle.assembly.proofs.ReadBack.{record-read-back}
-
-either : (length : Float) (b : Bool) (s t : Section) → within length s ≡ true → within length t ≡ true → within length (cond b s t) ≡ true
-either length true s t p q = p
-either length false s t p q = q
 
 module _ (x y : List Float) (frame : Frame) (knots : allFinite x ≡ true) (rise : rising x ≡ true) (careful : frame .method .split ≡ split.Careful) where
   -- the length of a period between two knots is not below 0
@@ -52,7 +49,8 @@ module _ (x y : List Float) (frame : Frame) (knots : allFinite x ≡ true) (rise
 
   section-within : (i : ℕ) → i < length x - 1 → within (at x (i + 1) ⊖ at x i) (sectionAt x y frame i) ≡ true
   unfolding sectionAt
-  section-within i l = either (at x (i + 1) ⊖ at x i) (frame .hold && eqb i (length x - 2)) _ _ (held-within i) (shaped-within i l)
+  section-within i l =
+      of-both (λ (s : Section). within (at x (i + 1) ⊖ at x i) s ≡ true) (frame .hold && eqb i (length x - 2)) _ _ (held-within i) (shaped-within i l)
 
   -- as the records are left in buffers that have room for them
   pub records-within : (i : ℕ) (tags : List ℕ) (slots : List Float) → i < length x - 1 → length x - 1 ≤ length tags → slotCount * (length x - 1) ≤ length slots →

@@ -3,6 +3,7 @@ use mathlib.Core.Bool.{Bool, true, false, cond, not, _&&_}
 use mathlib.Core.Path.{_≡_, refl}
 use lib.Ieee.{Float, lt}
 use Rattle.numbers.specs.Words.{_⊖_, zero, one}
+use Rattle.numbers.proofs.Ways.{of-both}
 use Rattle.section.specs.declared.section.Section.{Section}
 use Rattle.section.specs.declared.section.Section.the-variants as section
 use Rattle.section.specs.declared.constant_grad.ConstantGrad.{ConstantGrad}
@@ -71,8 +72,7 @@ noQuadratic (section.Combination s) = false
 
 -- what holds of both outcomes of a test
 either : {A : Type 0} (Q : A → Bool) (b : Bool) (x y : A) → Q x ≡ true → Q y ≡ true → Q (cond b x y) ≡ true
-either Q true x y p q = p
-either Q false x y p q = q
+either Q = of-both (λ a. Q a ≡ true)
 
 -- ---- a part by itself
 quadratic-suits-alone : (positive : Bool) (p : QuadraticPart) → quadraticSuits positive p ≡ true → suits positive (quadratic.alone p) ≡ true

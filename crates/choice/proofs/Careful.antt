@@ -1,9 +1,8 @@
 -- 02, K3: a section in careful mode is the original's, or the original's with its Min parabola not split; and none that is split is longer than its period.
-use mathlib.Core.Bool.{Bool, true, false, cond, _&&_}
+use mathlib.Core.Bool.{Bool, true, false, cond}
 use mathlib.Core.Logic.{_⊎_, inl, inr, ⊎-elim}
 use mathlib.Core.Path.{_≡_, refl, sym, ap, _∙_}
-use lib.Dec.{T}
-use lib.Ieee.{Float, le, lt, binary64, fits}
+use lib.Ieee.{Float, le, lt}
 use Rattle.numbers.specs.Words.{_⊖_, _⊘_, zero, one, finite}
 use Rattle.numbers.specs.OneOutcome.{Follows}
 use Rattle.numbers.proofs.Sums.{length-from-zero}

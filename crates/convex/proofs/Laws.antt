@@ -3,6 +3,7 @@ use mathlib.Core.Bool.{true, false}
 use mathlib.Core.Path.{_≡_, refl}
 use lib.Ieee.{Float, le, lt}
 use Rattle.numbers.specs.Words.{_⊕_, zero}
+use Rattle.numbers.proofs.AtMost.{le-of-below}
 use Rattle.convex.specs.declared.convex_monotone4.ConvexMonotone4.{ConvexMonotone4}
 use Rattle.convex.specs.declared.convex_monotone4_min.ConvexMonotone4Min.{ConvexMonotone4Min}
 use Rattle.convex.specs.ConvexMonotone4 as cm4
@@ -31,11 +32,6 @@ module _ (base : ConvexMonotone4) (above : le (base .a ⊕ base .«f_average») 
 pub cm4min-f-next : (s : ConvexMonotone4Min) → cm4min.«f_next» s ≡ cm4.«f_next» (s .base)
 cm4min-f-next s = refl
 
--- What the two comparisons have to do with each other.
-lt-le : (x y : Float) → lt x y ≡ true → le x y ≡ true
-unfolding le
-lt-le x y h = rw h
-
 -- Past x2 and before x3 a split section is +0.0 and nothing accumulates.
 module _ (s : ConvexMonotone4Min) (split : s .«split_region» ≡ true) (x : Float) (past : le x (s .x2) ≡ false) (before : lt x (s .x3) ≡ true) where
   pub cm4min-zero-value : cm4min.value s x ≡ zero
@@ -44,7 +40,7 @@ module _ (s : ConvexMonotone4Min) (split : s .«split_region» ≡ true) (x : Fl
 
   pub cm4min-zero-primitive : cm4min.primitive s x ≡ cm4min.«zero_primitive» s
   unfolding cm4min.primitive
-  cm4min-zero-primitive = rw (split, past, lt-le x (s .x3) before)
+  cm4min-zero-primitive = rw (split, past, le-of-below x (s .x3) before)
 
 -- At one edge each the primitive is still, or already, the constant, where the value is the curve's: at x3 of the fourth kind and at x2 of the parabola.
 module _ (s : ConvexMonotone4Min) (split : s .«split_region» ≡ true) (x : Float) (past : le x (s .x2) ≡ false) (reached : lt x (s .x3) ≡ false) (at : le x (s .x3) ≡ true) where

@@ -1,6 +1,6 @@
 -- 02, K3: no split parabola in a curve that `build` makes in careful mode is longer than its period.
 use Prim.Native.Nat.{ℕ, _-_, _<_}
-use mathlib.Core.Bool.{Bool, true, false, cond}
+use mathlib.Core.Bool.{Bool}
 use mathlib.Core.List.{List}
 use mathlib.Core.Path.{_≡_, refl, ap, subst, sym, _∙_}
 use denote.Ref.{now}
@@ -8,6 +8,7 @@ use lib.Dec.{eqb}
 use lib.Ieee.{Float}
 use lib.ListN.{length}
 use Rattle.numbers.specs.OneOutcome.{Follows}
+use Rattle.numbers.proofs.Ways.{of-both}
 use Rattle.refusal.specs.declared.Verdict.{Verdict}
 use Rattle.refusal.specs.declared.Verdict.the-variants as verdict
 use Rattle.table.specs.Buffers.{Buffers, Outcome, buffers, outcome}
@@ -28,11 +29,6 @@ use Rattle.curve.specs.declared.curve.Curve.{Curve}
 use Rattle.curve.proofs.Accepted.{accepted-sound, accepted-room}
 use Rattle.curve.proofs.build.build.Reads as build
 
--- both frames of a whole table have its settings
-one-method : (b : Bool) (f g : Frame) (m : ConvexMonotone) → f .method ≡ m → g .method ≡ m → cond b f g .method ≡ m
-one-method true f g m p q = p
-one-method false f g m p q = q
-
 abbrev verdictIn : Built → Verdict
 verdictIn (built.Curve c) = verdict.Accepted
 verdictIn (built.Refused r) = verdict.Refused r
@@ -41,8 +37,9 @@ module _ (x y : List Float) (method : ConvexMonotone) (hold : Bool) (seam : Seam
   abbrev frame : Frame
   frame = wholeFrame (length x) method hold seam
 
+  -- both frames of a whole table have its settings
   in-frame : frame .method .split ≡ split.Careful
-  in-frame = ap (λ (m : ConvexMonotone). m .split) (one-method (eqb (length x) 2) _ _ method refl refl) ∙ careful
+  in-frame = ap (λ (m : ConvexMonotone). m .split) (of-both (λ (f : Frame). f .method ≡ method) (eqb (length x) 2) _ _ refl refl) ∙ careful
 
   -- an answered curve was accepted, and its records are those of the table
   answered-within : (o : Outcome Built) (c : Curve) → o ≡ buildOutcome x y method hold seam b → o .answer ≡ built.Curve c →

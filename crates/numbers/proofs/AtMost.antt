@@ -3,14 +3,14 @@ use Prim.Native.Nat.{ℕ, _+_, _*_, _≤_, _<_}
 use native.Mathlib.Omega.{arith}
 use native.Mathlib.Nat.{le-of-mul-le-mul-right, mul-le-mul-right, add-mul, mul-assoc, mul-comm, mul-left-comm, zero-mul}
 use mathlib.Core.Bool.{Bool, true, false, not, _&&_, _||_}
-use mathlib.Core.Logic.{_⊎_, inl, inr, ⊎-elim}
+use mathlib.Core.Logic.{⊎-elim}
 use mathlib.Core.Path.{_≡_, refl, sym}
 use borrow.Author.Tests.{ltb-true, lt-ltb, le-ltb, eqb-true, eq-eqb}
 use lib.IntN.{ℤ}
 use lib.Dec.{ltb, eqb}
 use lib.Ieee.{Float, nan, inf, fin, lt, le, neg, below, level, up, down}
 use lib.Ieee.Fits.{down-pos}
-use Rattle.numbers.proofs.Ways.{never, lt-or-le}
+use Rattle.numbers.proofs.Ways.{never, lt-or-le, or-some}
 use Rattle.numbers.proofs.Every.{and-split}
 
 -- a size with a sign is its part above 0 less its part under 0: one of the two is the size, and the other is 0
@@ -35,12 +35,8 @@ less-mul true a k = refl
 less-mul false a k = sym (zero-mul k)
 
 -- a test passes by one of its halves
-either : (a b : Bool) → a || b ≡ true → (a ≡ true) ⊎ (b ≡ true)
-either true b h = inl refl
-either false b h = inr h
-
 reads : (a b : ℕ) (e : Bool) → (e ≡ true → a ≡ b) → ltb a b || (e && true) ≡ true → a ≤ b
-reads a b e f h = ⊎-elim (λ p. omega (arith, ltb-true a b p)) (λ p. omega (arith, f (and-split e true p .0))) (either (ltb a b) (e && true) h)
+reads a b e f h = ⊎-elim (λ p. omega (arith, ltb-true a b p)) (λ p. omega (arith, f (and-split e true p .0))) (or-some (ltb a b) (e && true) h)
 
 -- what the test `<=` says of two sizes with signs, and what makes it pass
 tested : (s t : Bool) (a b : ℕ) → below s a t b || level s a t b ≡ true → plus s a + less t b ≤ plus t b + less s a

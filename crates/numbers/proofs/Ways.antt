@@ -23,9 +23,18 @@ returned e h = sym e ∙ h
 pub asked-not : {a b t : Bool} → a ≡ b → not a ≡ t → not b ≡ t
 asked-not e h = sym (ap not e) ∙ h
 
+pub or-some : (a b : Bool) → a || b ≡ true → (a ≡ true) ⊎ (b ≡ true)
+or-some true b h = inl refl
+or-some false b h = inr h
+
 pub or-none : (a b : Bool) → a || b ≡ false → (a ≡ false) × (b ≡ false)
 or-none true b h = (h, never refl h)
 or-none false b h = (refl, h)
+
+-- what holds of both outcomes of a test holds of the one that it picks
+pub of-both : {A : Type 0} (P : A → Type 0) (b : Bool) (x y : A) → P x → P y → P (cond b x y)
+of-both P true x y p q = p
+of-both P false x y p q = q
 
 -- a definition that goes by a test, where the test is known
 pub taken : {A : Type 0} (b : Bool) (r x y : A) → b ≡ true → r ≡ x → r ≡ cond b x y

@@ -1,5 +1,5 @@
 -- 02, K3: what does not hold of the joints of a careful section, each with an input that shows it. The touch is then not from 0 to 1.
-use mathlib.Core.Bool.{Bool, true, false, _&&_}
+use mathlib.Core.Bool.{true}
 use mathlib.Core.Path.{_≡_, refl}
 use lib.Ieee.{Float, inf, nan, binary64, ofBits, add, sub, mul, div, neg, le, lt}
 use Rattle.numbers.specs.Words.{zero, one}

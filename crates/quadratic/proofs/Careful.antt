@@ -1,11 +1,11 @@
 -- 02, K3: the careful split beside the original's. It only ever splits less: its record is the original's, or the one that is not split.
 use mathlib.Core.Bool.{Bool, true, false, cond, _&&_}
 use mathlib.Core.Logic.{_⊎_, inl, inr, ⊎-elim}
-use mathlib.Core.Path.{_≡_, refl, sym, ap, _∙_}
+use mathlib.Core.Path.{_≡_, refl, sym, _∙_}
 use lib.Ieee.{Float}
 use Rattle.numbers.specs.Words.{_⊘_}
 use Rattle.numbers.specs.OneOutcome.{Follows}
-use Rattle.numbers.proofs.Ways.{never}
+use Rattle.numbers.proofs.Ways.{of-both}
 use Rattle.quadratic.specs.declared.quadratic_min.QuadraticMin.{QuadraticMin}
 use Rattle.quadratic.specs.QuadraticMin as quadmin
 use Rattle.quadratic.proofs.quadratic_min.QuadraticMin.new.Reads as new
@@ -22,11 +22,6 @@ second-taken false b x y h = refl
 second-left : {A : Type 0} (a b : Bool) (x y : A) → b ≡ false → cond (a && b) x y ≡ y
 second-left true b x y h = rw h
 second-left false b x y h = refl
-
--- one of two records with this end
-ends : (b : Bool) (x y : QuadraticMin) (f : Float) → x .«f_next» ≡ f → y .«f_next» ≡ f → cond b x y .«f_next» ≡ f
-ends true x y f p q = p
-ends false x y f p q = q
 
 tested : (b : Bool) → (b ≡ true) ⊎ (b ≡ false)
 tested true = inl refl
@@ -65,7 +60,9 @@ module _ (x0 x1 f0 f1 average total : Float) where
   -- either way it ends on the same node, which is all that growth reads of it
   pub same-end : quadmin.«f_next» carefully ≡ quadmin.«f_next» original
   unfolding quadmin.careful quadmin.new quadmin.split
-  same-end = ends (quadmin.splits f0 f1 average && quadmin.inPeriod ratio) _ _ f1 refl refl ∙ sym (ends (quadmin.splits f0 f1 average) _ _ f1 refl refl)
+  same-end =
+      of-both (λ (s : QuadraticMin). s .«f_next» ≡ f1) (quadmin.splits f0 f1 average && quadmin.inPeriod ratio) _ _ refl refl
+      ∙ sym (of-both (λ (s : QuadraticMin). s .«f_next» ≡ f1) (quadmin.splits f0 f1 average) _ _ refl refl)
 
 -- Of the two functions themselves, called with the same numbers.
 pub returned-either : Follows careful.Post (λ κ a r s.

@@ -1,8 +1,8 @@
 -- 02, K3: a careful section that is split is no longer than its period, and where its joints lie.
 use mathlib.Core.Bool.{Bool, true, false, cond, _&&_}
-use mathlib.Core.Path.{_≡_, refl, sym, ap, subst, _∙_}
+use mathlib.Core.Path.{_≡_, refl, ap, _∙_}
 use lib.Dec.{T}
-use lib.Ieee.{Float, binary64, fits, le, lt, neg, ofBits, sub, add, eq}
+use lib.Ieee.{Float, binary64, fits, le, lt, neg, ofBits, sub}
 use lib.Ieee.Fits.{sub-fits, mul-fits}
 use lib.Ieee.Bits.{ofBits-fits}
 use Rattle.numbers.specs.Words.{_⊕_, _⊖_, _⊗_, _⊘_, zero, one, two, finite}

@@ -12,7 +12,7 @@ use lib.Ieee.{Float, lt}
 use lib.ListN.{length}
 use Rattle.numbers.proofs.Every.{all-at, and-split}
 use Rattle.numbers.proofs.Order.{lt-on}
-use Rattle.numbers.proofs.Ways.{never, lt-or-le}
+use Rattle.numbers.proofs.Ways.{never, lt-or-le, or-some}
 use Rattle.table.specs.Check.{rising}
 use Rattle.table.specs.Table.{at}
 use Rattle.query.specs.Query.{placeOf}
@@ -59,10 +59,6 @@ below x q p o h =
     let e : p ≡ p - 1 + 1 = omega (arith, o) in
     never h (ap (λ (k : ℕ). lt q (at x k)) e ∙ none-before x q (p - 1) (omega (arith, o, m))))
     (lt-or-le (placeOf x q) p)
-
-or-some : (a b : Bool) → a || b ≡ true → (a ≡ true) ⊎ (b ≡ true)
-or-some true b h = inl refl
-or-some false b h = inr h
 
 -- a section that covers a query is its place
 pub covers-here : (x : List Float) (q : Float) (i : ℕ) → rising x ≡ true → i + 1 < length x → covers x q i ≡ true → i ≡ placeOf x q

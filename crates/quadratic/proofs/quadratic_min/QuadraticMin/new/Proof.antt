@@ -1,6 +1,6 @@
 -- `QuadraticMin::new` meets its contract: any ratio will do.
 use mathlib.Core.Bool.{Bool, true, false, _&&_}
-use mathlib.Core.Path.{_≡_, refl, ap, _∙_}
+use mathlib.Core.Path.{_≡_, refl}
 use borrow.Author.Needs.{needs}
 use Rattle.quadratic.specs.QuadraticMin.{new, splits, splitAt}
 use Rattle.quadratic.proofs.quadratic_min.QuadraticMin.new.Statement.{statement}
