@@ -26,11 +26,11 @@ less false a = 0
 abbrev pub AtMost : Bool → ℕ → ℕ → Bool → ℕ → ℕ → Type 0
 AtMost s a c t b d = plus s a * d + less t b * c ≤ plus t b * c + less s a * d
 
-plus-mul : (s : Bool) (a k : ℕ) → plus s (a * k) ≡ plus s a * k
+pub plus-mul : (s : Bool) (a k : ℕ) → plus s (a * k) ≡ plus s a * k
 plus-mul true a k = sym (zero-mul k)
 plus-mul false a k = refl
 
-less-mul : (s : Bool) (a k : ℕ) → less s (a * k) ≡ less s a * k
+pub less-mul : (s : Bool) (a k : ℕ) → less s (a * k) ≡ less s a * k
 less-mul true a k = refl
 less-mul false a k = sym (zero-mul k)
 
@@ -45,7 +45,7 @@ tested false true a b h = let p = and-split (eqb a b) (eqb a 0) h in omega (arit
 tested true false a b h = omega arith
 tested true true a b h = omega (arith, reads b a (eqb a b) (λ p. sym (eqb-true a b p)) h)
 
-test : (s t : Bool) (a b : ℕ) → plus s a + less t b ≤ plus t b + less s a → below s a t b || level s a t b ≡ true
+pub test : (s t : Bool) (a b : ℕ) → plus s a + less t b ≤ plus t b + less s a → below s a t b || level s a t b ≡ true
 test false false a b h = ⊎-elim (λ l. simp (lt-ltb a b l)) (λ l. simp (le-ltb a b l, eq-eqb a b (omega arith))) (lt-or-le a b)
 test false true a b h = simp (eq-eqb a b (omega arith), eq-eqb a 0 (omega arith))
 test true false a b h = ⊎-elim (λ l. simp (lt-ltb 0 (a + b) l)) (λ l. simp (le-ltb 0 (a + b) l, eq-eqb a b (omega arith), eq-eqb a 0 (omega arith))) (lt-or-le 0 (a + b))

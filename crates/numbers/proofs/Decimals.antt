@@ -4,7 +4,7 @@ use mathlib.Core.Path.{_≡_, refl}
 use Prim.Native.Nat.{ℕ, _^_}
 use lib.Ieee.{Float, binary64, ofBits, round}
 use lib.Ieee.Exact.{HasValue}
-use Rattle.numbers.specs.Words.{zero, half, one, threeHalves, two, three, four, six, twentyFour, thirtySix, tiny, threeTenths, sevenTenths}
+use Rattle.numbers.specs.Words.{zero, half, one, threeHalves, two, three, four, six, twentyFour, thirtySix, tiny, narrow, threeTenths, sevenTenths}
 
 -- x is + a / c, exactly
 abbrev Worth : Float → ℕ → ℕ → Type 0
@@ -19,6 +19,6 @@ exact = ((refl, refl), (refl, refl), (refl, refl), (refl, refl), (refl, refl), (
 abbrev Nearest : Float → ℕ → ℕ → Type 0
 Nearest x a c = x ≡ round binary64 false a c
 
-pub nearest : Nearest tiny 1 (10 ^ 14) × Nearest threeTenths 3 10 × Nearest sevenTenths 7 10
+pub nearest : Nearest tiny 1 (10 ^ 14) × Nearest narrow 1 (10 ^ 12) × Nearest threeTenths 3 10 × Nearest sevenTenths 7 10
 unfolding ofBits round
-nearest = (refl, refl, refl)
+nearest = (refl, refl, refl, refl)

@@ -17,7 +17,7 @@ unfolding round
 round-zero s c h = round-same binary64 s 0 c 0 1 h (lit< tt) (simp zero-mul)
 
 -- a / c less itself
-sum-self : (s : Bool) (a c : ℕ) → 0 < c → sum binary64 s a (not s) a c ≡ fin false 0 (pos 0)
+pub sum-self : (s : Bool) (a c : ℕ) → 0 < c → sum binary64 s a (not s) a c ≡ fin false 0 (pos 0)
 unfolding sum
 sum-self true a c h = simp (le-ltb a a (le-refl a), sub-self) (round-zero false c h)
 sum-self false a c h = simp (le-ltb a a (le-refl a), sub-self) (round-zero false c h)

@@ -12,3 +12,8 @@ pub mod AtMost
 pub mod Rounding
 pub mod Sums
 pub mod Shrinking
+pub mod Plus
+pub mod Bounds
+pub mod Monotone
+pub mod Low
+pub mod Ratios

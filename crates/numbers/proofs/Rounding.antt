@@ -34,7 +34,7 @@ units-neg f q k = by (ltb (q * 2 ^ k) (2 ^ (low f + suc (emax f))))
     by true = odd-neg (suc (prec f)) q k (low f)
     by false = refl
 
-round-neg : (a b : ℕ) → neg (round binary64 false a b) ≡ round binary64 true a b
+pub round-neg : (a b : ℕ) → neg (round binary64 false a b) ≡ round binary64 true a b
 round-neg a b = ap neg (round-is binary64 false a b) ∙ units-neg binary64 _ _ ∙ sym (round-is binary64 true a b)
 
 -- of two fractions that are not below 0, the larger rounds to a number that is no smaller; under 0 the signs turn that round

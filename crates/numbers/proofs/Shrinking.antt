@@ -35,13 +35,13 @@ product-comm (fin s m e) (inf t) = rw (unlike-comm s t)
 product-comm (fin s m e) (fin t n d) = rw (unlike-comm s t, mul-comm (m * up e) (n * up d), mul-comm (down e) (down d))
 
 -- the law of signs, for the parts of a product above and under 0
-plus-product : (s t : Bool) (a b : ℕ) → plus (unlike s t) (a * b) ≡ plus s a * plus t b + less s a * less t b
+pub plus-product : (s t : Bool) (a b : ℕ) → plus (unlike s t) (a * b) ≡ plus s a * plus t b + less s a * less t b
 plus-product true true a b = simp (zero-mul, zero-add)
 plus-product true false a b = simp (zero-mul, mul-zero)
 plus-product false true a b = simp (zero-mul, mul-zero)
 plus-product false false a b = simp (mul-zero, add-zero)
 
-less-product : (s t : Bool) (a b : ℕ) → less (unlike s t) (a * b) ≡ plus s a * less t b + less s a * plus t b
+pub less-product : (s t : Bool) (a b : ℕ) → less (unlike s t) (a * b) ≡ plus s a * less t b + less s a * plus t b
 less-product true true a b = simp (zero-mul, mul-zero)
 less-product true false a b = simp (zero-mul, zero-add)
 less-product false true a b = simp (zero-mul, add-zero)
@@ -94,7 +94,7 @@ pub shrinks-finite : (x r : Float) → T (fits binary64 x) → finite x ≡ true
 shrinks-finite x r g f h k l = shrunk x r f h k l .1 g
 
 -- so it is finite
-between-finite : (x y : Float) → finite y ≡ true → le zero x ≡ true → le x y ≡ true → finite x ≡ true
+pub between-finite : (x y : Float) → finite y ≡ true → le zero x ≡ true → le x y ≡ true → finite x ≡ true
 unfolding finite le ofBits
 between-finite nan y f h k = h
 between-finite (inf true) y f h k = h

@@ -36,7 +36,7 @@ sum-rounded true false a c b d =
     (lt-or-le (a * d) (b * c))
 
 -- the sum of two finite numbers is such a rounding, so it is no NaN
-plus-rounded : (s : Bool) (m : ℕ) (e : ℤ) (t : Bool) (n : ℕ) (d : ℤ) → Rounded (fin s m e ⊕ fin t n d)
+pub plus-rounded : (s : Bool) (m : ℕ) (e : ℤ) (t : Bool) (n : ℕ) (d : ℤ) → Rounded (fin s m e ⊕ fin t n d)
     (plus s (m * up e) * down d + plus t (n * up d) * down e) (less s (m * up e) * down d + less t (n * up d) * down e) (down e * down d)
 unfolding add
 plus-rounded s m e t n d = sum-rounded s t (m * up e) (down e) (n * up d) (down d)
@@ -78,7 +78,7 @@ unfolding sub
 difference-anti x y z f h = sum-mono x (neg z) (neg y) f (le-neg y z h)
 
 -- a finite number that fits stays where it is when 0 is added
-stays : (x : Float) → T (fits binary64 x) → finite x ≡ true → (le x (x ⊕ zero) ≡ true) × (le (x ⊕ zero) x ≡ true)
+pub stays : (x : Float) → T (fits binary64 x) → finite x ≡ true → (le x (x ⊕ zero) ≡ true) × (le (x ⊕ zero) x ≡ true)
 unfolding finite ofBits
 stays nan h f = never f refl
 stays (inf s) h f = never f refl

@@ -44,3 +44,8 @@ pub left : {A : Type 0} (b : Bool) (r x y : A) → b ≡ false → r ≡ y → r
 left b r x y h e = rw h e
 
 pub ruleset ways = (taken, left)
+
+-- each outcome with what the test says of it
+pub of-each : {A : Type 0} (P : A → Type 0) (b : Bool) (x y : A) → (b ≡ true → P x) → (b ≡ false → P y) → P (cond b x y)
+of-each P true x y p q = p refl
+of-each P false x y p q = q refl

@@ -55,6 +55,10 @@ thirtySix = ofBits binary64 0x4042_0000_0000_0000
 abbrev pub tiny : Float
 tiny = ofBits binary64 0x3d06_849b_86a1_2b9b
 
+-- 1.0e-12
+abbrev pub narrow : Float
+narrow = ofBits binary64 0x3d71_9799_812d_ea11
+
 -- 0.3 and 0.7, the defaults of the method
 abbrev pub threeTenths : Float
 threeTenths = ofBits binary64 0x3fd3_3333_3333_3333

@@ -10,6 +10,9 @@ pub const FIELDS: usize = 24;
 // The slots of one record.
 pub const SLOTS: usize = FIELDS;
 
+// In the safe mode no shape is squeezed to this part of its period or less.
+pub const NARROW: f64 = 1.0e-12;
+
 // Whether x is neither a NaN nor an infinity. No bit pattern is looked at, so a loop of these stays plain float code.
 pub fn is_finite(x: f64) -> bool
     ensures { λ r. ⌜ r ≡ finite x ⌝ }
