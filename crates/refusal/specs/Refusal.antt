@@ -3,7 +3,7 @@ use Prim.Native.Nat.{ℕ}
 use mathlib.Core.Bool.{Bool, cond}
 use mathlib.Core.List.{List, [], _∷_}
 use Rattle.refusal.specs.declared.Refusal.{Refusal}
-use Rattle.refusal.specs.declared.Refusal.the-variants.{LengthsDiffer, MonotonicityOutside, QuadraticityOutside, TooFewPoints, KnotNotFinite, AverageNotFinite, KnotsNotRising, SeamTooLong, NoPreviousCurve, TooManyPoints, BufferTooShort, QueryNotANumber, QueryOutside, DerivativeAsked, RecordNotLegal, NoGivenNode, OrderMalformed, CutsNotInner}
+use Rattle.refusal.specs.declared.Refusal.the-variants.{LengthsDiffer, MonotonicityOutside, QuadraticityOutside, TooFewPoints, KnotNotFinite, AverageNotFinite, KnotsNotRising, SeamTooLong, NoPreviousCurve, TooManyPoints, BufferTooShort, QueryNotANumber, QueryOutside, DerivativeAsked, RecordNotLegal, NoGivenNode, OrderMalformed, CutsNotInner, AverageBelowZero, SplitUnknown}
 use Rattle.refusal.specs.declared.Verdict.{Verdict}
 use Rattle.refusal.specs.declared.Verdict.the-variants.{Accepted, Refused}
 
@@ -26,6 +26,8 @@ number RecordNotLegal = 15
 number NoGivenNode = 16
 number OrderMalformed = 17
 number CutsNotInner = 28
+number AverageBelowZero = 29
+number SplitUnknown = 30
 
 -- a verdict's number: 0, or the refusal's
 abbrev pub verdictNumber : Verdict → ℕ

@@ -1,4 +1,4 @@
-// Every refusal in words, and its number: 1 to 17 are document 01's, and 28 is the library's own.
+// Every refusal in words, and its number: 1 to 17 are document 01's, and 28 to 30 are the library's own.
 ghost use mathlib.Core.Path.{_≡_};
 ghost use Rattle.refusal.specs.Refusal.{number, verdictNumber};
 
@@ -21,6 +21,8 @@ pub enum Refusal {
     NoGivenNode,
     OrderMalformed,
     CutsNotInner,
+    AverageBelowZero,
+    SplitUnknown,
 }
 
 impl Refusal {
@@ -46,6 +48,8 @@ impl Refusal {
             Refusal::NoGivenNode => 16,
             Refusal::OrderMalformed => 17,
             Refusal::CutsNotInner => 28,
+            Refusal::AverageBelowZero => 29,
+            Refusal::SplitUnknown => 30,
         }
     }
 }
