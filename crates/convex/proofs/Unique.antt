@@ -14,6 +14,8 @@ use Rattle.convex.proofs.convex_monotone4.ConvexMonotone4.value.Reads a
 use Rattle.convex.proofs.convex_monotone4.ConvexMonotone4.primitive.Reads as convex-monotone4-primitive
 use Rattle.convex.proofs.convex_monotone4.ConvexMonotone4.f_next.Reads as convex-monotone4-f-next
 use Rattle.convex.proofs.convex_monotone4_min.ConvexMonotone4Min.new.Reads as convex-monotone4-min-new
+use Rattle.convex.proofs.convex_monotone4_min.ConvexMonotone4Min.safe.Reads as convex-monotone4-min-safe
+use Rattle.convex.proofs.convex_monotone4_min.ConvexMonotone4Min.in_mode.Reads as convex-monotone4-min-in-mode
 use Rattle.convex.proofs.convex_monotone4_min.ConvexMonotone4Min.value.Reads as convex-monotone4-min-value
 use Rattle.convex.proofs.convex_monotone4_min.ConvexMonotone4Min.primitive.Reads as convex-monotone4-min-primitive
 use Rattle.convex.proofs.convex_monotone4_min.ConvexMonotone4Min.f_next.Reads as convex-monotone4-min-f-next
@@ -56,6 +58,12 @@ convex-monotone4-f-next-unique κ a r₁ r₂ s t p q = p ∙ sym q
 
 pub convex-monotone4-min-new-unique : OneAnswer convex-monotone4-min-new.Post
 convex-monotone4-min-new-unique κ a r₁ r₂ s t p q = p ∙ sym q
+
+pub convex-monotone4-min-safe-unique : OneAnswer convex-monotone4-min-safe.Post
+convex-monotone4-min-safe-unique κ a r₁ r₂ s t p q = p ∙ sym q
+
+pub convex-monotone4-min-in-mode-unique : OneAnswer convex-monotone4-min-in-mode.Post
+convex-monotone4-min-in-mode-unique κ a r₁ r₂ s t p q = p ∙ sym q
 
 pub convex-monotone4-min-value-unique : OneAnswer convex-monotone4-min-value.Post
 convex-monotone4-min-value-unique κ a r₁ r₂ s t p q = p ∙ sym q

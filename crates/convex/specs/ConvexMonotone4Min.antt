@@ -1,7 +1,7 @@
 -- 000, ConvexMonotone4MinHelper
-use mathlib.Core.Bool.{true, false, not, cond}
+use mathlib.Core.Bool.{Bool, true, false, not, cond, _&&_}
 use lib.Ieee.{Float, le, lt, neg}
-use Rattle.numbers.specs.Words.{_⊕_, _⊖_, _⊗_, _⊘_, zero, one, two, three}
+use Rattle.numbers.specs.Words.{_⊕_, _⊖_, _⊗_, _⊘_, zero, half, one, two, three, narrow}
 use Rattle.convex.specs.declared.convex_monotone4.ConvexMonotone4.{ConvexMonotone4}
 use Rattle.convex.specs.declared.convex_monotone4_min.ConvexMonotone4Min.{ConvexMonotone4Min}
 use Rattle.convex.specs.ConvexMonotone4 as cm4
@@ -45,6 +45,23 @@ unfolding split
 abbrev pub new : Float → Float → Float → Float → Float → Float → Float → ConvexMonotone4Min
 new «x_prev» «x_next» «g_prev» «g_next» «f_average» eta4 «prev_primitive» =
     «of_base» (cm4.new «x_prev» «x_next» «g_prev» «g_next» «f_average» eta4 «prev_primitive»)
+
+-- our own: next to nothing of the squeezed shape is left
+abbrev pub squeezedAway : ConvexMonotone4Min → Bool
+squeezedAway s = s .«split_region» && not (lt narrow (s .«x_ratio»))
+
+-- the shape, or flat at its average where next to nothing of it is left
+unfoldable pub safe : Float → Float → Float → Float → Float → Float → Float → ConvexMonotone4Min
+safe «x_prev» «x_next» «g_prev» «g_next» «f_average» eta4 «prev_primitive» =
+    let made = new «x_prev» «x_next» «g_prev» «g_next» «f_average» eta4 «prev_primitive» in
+    cond (squeezedAway made) (unsplit (cm4.new «x_prev» «x_next» zero zero «f_average» half «prev_primitive»)) made
+
+-- either of the two
+abbrev pub inMode : Bool → Float → Float → Float → Float → Float → Float → Float → ConvexMonotone4Min
+inMode isSafe «x_prev» «x_next» «g_prev» «g_next» «f_average» eta4 «prev_primitive» =
+    cond isSafe
+    (safe «x_prev» «x_next» «g_prev» «g_next» «f_average» eta4 «prev_primitive»)
+    (new «x_prev» «x_next» «g_prev» «g_next» «f_average» eta4 «prev_primitive»)
 
 module _ (s : ConvexMonotone4Min) where
   open ConvexMonotone4Min s using (base, «split_region», «x_ratio», x2, x3)

@@ -1,7 +1,8 @@
 // The fourth kind kept from falling below zero: where it would, it is squeezed towards the ends, with zero between x2 and x3.
 use crate::convex_monotone4::ConvexMonotone4;
+use numbers::NARROW;
 ghost use mathlib.Core.Path.{_≡_};
-ghost use Rattle.convex.specs.ConvexMonotone4Min.{new, split, unsplit, «of_base», value, primitive, «f_next», «zero_primitive»};
+ghost use Rattle.convex.specs.ConvexMonotone4Min.{new, safe, inMode, squeezedAway, split, unsplit, «of_base», value, primitive, «f_next», «zero_primitive»};
 
 pub struct ConvexMonotone4Min {
     pub base: ConvexMonotone4,
@@ -62,6 +63,16 @@ fn of_base(base: ConvexMonotone4) -> ConvexMonotone4Min
     unsplit(base)
 }
 
+// Whether next to nothing of the squeezed shape is left. An average that is lost beside its nodes makes it so, and then the ratio may be 0.
+fn squeezed_away(s: ConvexMonotone4Min) -> bool
+    ensures { λ r. ⌜ r ≡ squeezedAway s ⌝ }
+{
+    if s.split_region {
+        return !(NARROW < s.x_ratio);
+    }
+    false
+}
+
 impl ConvexMonotone4Min {
     pub fn new(
         x_prev: f64,
@@ -83,6 +94,68 @@ impl ConvexMonotone4Min {
             eta4,
             prev_primitive,
         ))
+    }
+
+    // The same, but flat at its average where next to nothing of the squeezed shape is left: with the ratio 0 that one has no price at its left knot.
+    pub fn safe(
+        x_prev: f64,
+        x_next: f64,
+        g_prev: f64,
+        g_next: f64,
+        f_average: f64,
+        eta4: f64,
+        prev_primitive: f64,
+    ) -> Self
+        ensures { λ r. ⌜ r ≡ safe «x_prev» «x_next» «g_prev» «g_next» «f_average» eta4 «prev_primitive» ⌝ }
+    {
+        Self::in_mode(
+            true,
+            x_prev,
+            x_next,
+            g_prev,
+            g_next,
+            f_average,
+            eta4,
+            prev_primitive,
+        )
+    }
+
+    // Either of the two, in one place: a caller that may want both makes the shape once, where its answer is to stand.
+    pub fn in_mode(
+        safe: bool,
+        x_prev: f64,
+        x_next: f64,
+        g_prev: f64,
+        g_next: f64,
+        f_average: f64,
+        eta4: f64,
+        prev_primitive: f64,
+    ) -> Self
+        ensures { λ r. ⌜ r ≡ inMode safe «x_prev» «x_next» «g_prev» «g_next» «f_average» eta4 «prev_primitive» ⌝ }
+    {
+        let made = of_base(ConvexMonotone4::new(
+            x_prev,
+            x_next,
+            g_prev,
+            g_next,
+            f_average,
+            eta4,
+            prev_primitive,
+        ));
+        if safe {
+            if squeezed_away(made) {
+                return unsplit(ConvexMonotone4::new(
+                    x_prev,
+                    x_next,
+                    0.0,
+                    0.0,
+                    f_average,
+                    0.5,
+                    prev_primitive,
+                ));
+            }
+        }
+        made
     }
 
     // What has accumulated where the zero stretch begins, and all along it.
