@@ -23,7 +23,7 @@ second-left : {A : Type 0} (a b : Bool) (x y : A) → b ≡ false → cond (a &&
 second-left true b x y h = rw h
 second-left false b x y h = refl
 
-tested : (b : Bool) → (b ≡ true) ⊎ (b ≡ false)
+pub tested : (b : Bool) → (b ≡ true) ⊎ (b ≡ false)
 tested true = inl refl
 tested false = inr refl
 

@@ -124,7 +124,7 @@ pub record Rising (x0 x1 : Float) : Type 0 where
   pub right : finite x1 ≡ true
   pub rise : lt x0 x1 ≡ true
 
-long : (x0 x1 : Float) → Rising x0 x1 → le zero (x1 ⊖ x0) ≡ true
+pub long : (x0 x1 : Float) → Rising x0 x1 → le zero (x1 ⊖ x0) ≡ true
 long x0 x1 k = length-from-zero x0 x1 (k .left) (k .right) (k .rise)
 
 pub returned-not-stretched : Follows careful.Post (λ κ a r s. let (x0, (x1, _)) = a in Rising x0 x1 → r .«split_region» ≡ true → le (r .«x_scaling») (x1 ⊖ x0) ≡ true)

@@ -2,5 +2,8 @@ pub mod Unique
 pub mod Figures
 pub mod Laws
 pub mod Careful
+pub mod Exact
 pub mod InPeriod
 pub mod Beyond
+pub mod Safe
+pub mod Finite

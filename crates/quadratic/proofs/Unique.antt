@@ -7,6 +7,7 @@ use Rattle.quadratic.proofs.quadratic.Quadratic.primitive.Reads as quad
 use Rattle.quadratic.proofs.quadratic.Quadratic.f_next.Reads as quadratic-f-next
 use Rattle.quadratic.proofs.quadratic_min.QuadraticMin.new.Reads as quadratic-min-new
 use Rattle.quadratic.proofs.quadratic_min.QuadraticMin.careful.Reads as quadratic-min-careful
+use Rattle.quadratic.proofs.quadratic_min.QuadraticMin.safe.Reads as quadratic-min-safe
 use Rattle.quadratic.proofs.quadratic_min.QuadraticMin.value.Reads as quadratic-min-value
 use Rattle.quadratic.proofs.quadratic_min.QuadraticMin.primitive.Reads as quadratic-min-primitive
 use Rattle.quadratic.proofs.quadratic_min.QuadraticMin.f_next.Reads as quadratic-min-f-next
@@ -28,6 +29,9 @@ quadratic-min-new-unique κ a r₁ r₂ s t p q = p ∙ sym q
 
 pub quadratic-min-careful-unique : OneAnswer quadratic-min-careful.Post
 quadratic-min-careful-unique κ a r₁ r₂ s t p q = p ∙ sym q
+
+pub quadratic-min-safe-unique : OneAnswer quadratic-min-safe.Post
+quadratic-min-safe-unique κ a r₁ r₂ s t p q = p ∙ sym q
 
 pub quadratic-min-value-unique : OneAnswer quadratic-min-value.Post
 quadratic-min-value-unique κ a r₁ r₂ s t p q = p ∙ sym q

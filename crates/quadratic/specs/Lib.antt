@@ -1,3 +1,4 @@
 pub mod Parabola
 pub mod Quadratic
 pub mod QuadraticMin
+pub mod Exact

@@ -1,7 +1,7 @@
 -- 000, QuadraticMinHelper
-use mathlib.Core.Bool.{Bool, true, false, cond, _&&_, _||_}
-use lib.Ieee.{Float, le, lt, neg}
-use Rattle.numbers.specs.Words.{_⊕_, _⊖_, _⊗_, _⊘_, zero, one, two, four, twentyFour, thirtySix}
+use mathlib.Core.Bool.{Bool, true, false, not, cond, _&&_, _||_}
+use lib.Ieee.{Float, le, lt, eq, neg}
+use Rattle.numbers.specs.Words.{_⊕_, _⊖_, _⊗_, _⊘_, zero, one, two, three, four, twentyFour, thirtySix, narrow}
 use Rattle.root.specs.Root.{root}
 use Rattle.quadratic.specs.Parabola.{«a_of», «b_of», under}
 use Rattle.quadratic.specs.declared.quadratic_min.QuadraticMin.{QuadraticMin}
@@ -19,18 +19,36 @@ module _ («f_prev» «f_next» : Float) where
   abbrev pub «av_root» : Float
   «av_root» = (neg «b_av» ⊖ root «d_av») ⊘ (two ⊗ thirtySix)
 
-  -- whether the parabola with this average has two zeros, in the period or outside it, and whether one with these ends can touch zero
-  unfoldable pub splits : Float → Bool
-  splits «f_average» =
+  -- of the parabola with this average
+  abbrev pub discriminant : Float → Float
+  discriminant «f_average» =
       let a = «a_of» «f_prev» «f_next» «f_average» in
       let b = «b_of» «f_prev» «f_next» «f_average» in
-      lt zero (b ⊗ b ⊖ four ⊗ a ⊗ «f_prev») && le zero «d_av»
+      b ⊗ b ⊖ four ⊗ a ⊗ «f_prev»
+
+  -- whether that parabola has two zeros, in the period or outside it, and whether one with these ends can touch zero
+  unfoldable pub splits : Float → Bool
+  splits «f_average» = lt zero (discriminant «f_average») && le zero «d_av»
+
+  -- Our own: d_av is 576 times the product of the ends in exact arithmetic, so ends at or above 0 can always touch zero. What is too large for a float is no
+  -- reason not to look.
+  unfoldable pub splitsSafely : Float → Bool
+  splitsSafely «f_average» = not (le (discriminant «f_average») zero) && (le zero «f_prev» && le zero «f_next»)
+
+  -- av_root, with that product in place of d_av
+  abbrev pub touching : Float
+  touching = («f_prev» ⊕ «f_next» ⊖ root («f_prev» ⊗ «f_next»)) ⊘ three
 
 -- 02, K3: what the careful split asks of the ratio; a NaN is not above 0
 unfoldable pub inPeriod : Float → Bool
 inPeriod «x_ratio» = lt zero «x_ratio» && le «x_ratio» one
 
+-- our own: the same, and no shape that is squeezed to next to nothing
+unfoldable pub inSight : Float → Bool
+inSight «x_ratio» = lt narrow «x_ratio» && le «x_ratio» one
+
 module _ («x_prev» «x_next» «f_prev» «f_next» «f_average» «prev_primitive» : Float) where
+  -- the parabola as it is, not split
   abbrev pub unsplit : QuadraticMin
   unsplit = record {
     «split_region» = false;
@@ -81,14 +99,48 @@ module _ («x_prev» «x_next» «f_prev» «f_next» «f_average» «prev_primi
       let touching = «av_root» «f_prev» «f_next» in
       cond (splits «f_prev» «f_next» «f_average» && inPeriod («f_average» ⊘ touching)) (split touching) unsplit
 
--- steps of the code: either rule, by whether any ratio will do
-module _ (any : Bool) («x_prev» «x_next» «f_prev» «f_next» «f_average» «prev_primitive» : Float) where
+-- both ends at the average
+abbrev pub level : Float → Float → Float → Float → QuadraticMin
+level «x_prev» «x_next» «f_average» «prev_primitive» = unsplit «x_prev» «x_next» «f_average» «f_average» «f_average» «prev_primitive»
+
+module _ («x_prev» «x_next» «f_prev» «f_next» «f_average» «prev_primitive» : Float) where
+  -- Our own: by the tests of exact arithmetic, and by the ratio. A parabola that would be squeezed to next to nothing is not split, and has both ends at
+  -- the average.
+  unfoldable pub safe : QuadraticMin
+  safe =
+      let ratio = «f_average» ⊘ touching «f_prev» «f_next» in
+      let whole = unsplit «x_prev» «x_next» «f_prev» «f_next» «f_average» «prev_primitive» in
+      cond (splitsSafely «f_prev» «f_next» «f_average»)
+      (cond (inSight ratio)
+      (split «x_prev» «x_next» «f_prev» «f_next» «f_average» «prev_primitive» (touching «f_prev» «f_next»))
+      (cond (le ratio narrow) (level «x_prev» «x_next» «f_average» «prev_primitive») whole))
+      whole
+
+-- Steps of the code: any of the three rules in one place.
+unfoldable pub ratioPasses : Bool → Bool → Float → Bool
+ratioPasses isSafe any ratio = cond isSafe (inSight ratio) (any || inPeriod ratio)
+
+module _ (isSafe : Bool) («f_prev» «f_next» : Float) where
+  unfoldable pub underRoot : Float
+  underRoot = cond isSafe («f_prev» ⊗ «f_next») («d_av» «f_prev» «f_next»)
+
+  unfoldable pub turning : Float
+  turning = cond isSafe (touching «f_prev» «f_next») («av_root» «f_prev» «f_next»)
+
+  unfoldable pub passes : Float → Bool
+  passes «f_average» = cond isSafe (splitsSafely «f_prev» «f_next» «f_average») (splits «f_prev» «f_next» «f_average»)
+
+module _ (isSafe any : Bool) («x_prev» «x_next» «f_prev» «f_next» «f_average» «prev_primitive» : Float) where
   unfoldable pub splitAt : QuadraticMin
+  unfolding turning passes ratioPasses
   splitAt =
-      let touching = «av_root» «f_prev» «f_next» in
-      cond (splits «f_prev» «f_next» «f_average» && (any || inPeriod («f_average» ⊘ touching)))
-      (split «x_prev» «x_next» «f_prev» «f_next» «f_average» «prev_primitive» touching)
-      (unsplit «x_prev» «x_next» «f_prev» «f_next» «f_average» «prev_primitive»)
+      let ratio = «f_average» ⊘ turning isSafe «f_prev» «f_next» in
+      let whole = unsplit «x_prev» «x_next» «f_prev» «f_next» «f_average» «prev_primitive» in
+      cond (passes isSafe «f_prev» «f_next» «f_average»)
+      (cond (ratioPasses isSafe any ratio)
+      (split «x_prev» «x_next» «f_prev» «f_next» «f_average» «prev_primitive» (turning isSafe «f_prev» «f_next»))
+      (cond (isSafe && le ratio narrow) (level «x_prev» «x_next» «f_average» «prev_primitive») whole))
+      whole
 
 module _ (s : QuadraticMin) where
   open QuadraticMin s using («split_region», x1, x2, x3, x4, a, b, c, primitive1, primitive2, «x_scaling», «x_ratio»)

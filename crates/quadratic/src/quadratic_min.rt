@@ -1,11 +1,14 @@
 // The parabola that positivity may split. Where it splits, the section is two arms of a parabola that touches zero, with zero between x2 and x3.
-// Elsewhere it is the plain parabola. There are two rules of when: that of `new`, which is the original's, and that of `careful`.
+// Elsewhere it is the plain parabola. There are three rules of when: that of `new`, which is the original's, that of `careful`, and that of `safe`.
 use crate::parabola::a_of;
 use crate::parabola::b_of;
 use crate::parabola::under;
+use numbers::NARROW;
 ghost use mathlib.Core.Path.{_≡_};
-ghost use mathlib.Core.Bool.{_||_};
-ghost use Rattle.quadratic.specs.QuadraticMin.{new, value, primitive, «f_next», «b_av», «d_av», «av_root», splits, inPeriod, splitAt, split, unsplit, careful, «value_at», «primitive_at»};
+ghost use mathlib.Core.Bool.{_&&_};
+ghost use lib.Ieee.{le};
+ghost use Rattle.numbers.specs.Words.{narrow};
+ghost use Rattle.quadratic.specs.QuadraticMin.{new, value, primitive, «f_next», «b_av», «d_av», discriminant, splits, splitsSafely, underRoot, turning, passes, ratioPasses, splitAt, split, unsplit, careful, safe, «value_at», «primitive_at»};
 
 pub struct QuadraticMin {
     pub split_region: bool,
@@ -39,34 +42,89 @@ fn d_av(f_prev: f64, f_next: f64) -> f64
     b * b - 4.0 * 36.0 * c_av
 }
 
-// The lower of the two averages at which a parabola with these ends touches zero.
-fn av_root(f_prev: f64, f_next: f64) -> f64
-    ensures { λ r. ⌜ r ≡ «av_root» «f_prev» «f_next» ⌝ }
+// What the root is taken of: in exact arithmetic d_av is 576 times the product of the ends.
+fn under_root(safe: bool, f_prev: f64, f_next: f64) -> f64
+    ensures { λ r. ⌜ r ≡ underRoot safe «f_prev» «f_next» ⌝ }
 {
-    (-b_av(f_prev, f_next) - root::sqrt(d_av(f_prev, f_next))) / (2.0 * 36.0)
+    if safe {
+        return f_prev * f_next;
+    }
+    d_av(f_prev, f_next)
 }
 
-// The split rule: whether the parabola with these ends and this average has two zeros, in the period or outside it, and whether one with these ends
-// can touch zero. It does not ask where the zeros lie: ends 4 and 1 with average 3 split, although that parabola never goes below 1.
-fn splits(f_prev: f64, f_next: f64, f_average: f64) -> bool
-    ensures { λ r. ⌜ r ≡ splits «f_prev» «f_next» «f_average» ⌝ }
+// The lower of the two averages at which a parabola with these ends touches zero.
+fn turning(safe: bool, f_prev: f64, f_next: f64) -> f64
+    ensures { λ r. ⌜ r ≡ turning safe «f_prev» «f_next» ⌝ }
+{
+    let root = root::sqrt(under_root(safe, f_prev, f_next));
+    if safe {
+        return (f_prev + f_next - root) / 3.0;
+    }
+    (-b_av(f_prev, f_next) - root) / (2.0 * 36.0)
+}
+
+// The discriminant of the parabola with these ends and this average: above 0 where it has two zeros, in the period or outside it.
+fn discriminant(f_prev: f64, f_next: f64, f_average: f64) -> f64
+    ensures { λ r. ⌜ r ≡ discriminant «f_prev» «f_next» «f_average» ⌝ }
 {
     let a = a_of(f_prev, f_next, f_average);
     let b = b_of(f_prev, f_next, f_average);
-    if b * b - 4.0 * a * f_prev > 0.0 {
+    b * b - 4.0 * a * f_prev
+}
+
+// The original's rule: it has two zeros, and one with these ends can touch zero. It does not ask where the zeros lie: ends 4 and 1 with average 3 split,
+// although that parabola never goes below 1.
+fn splits(f_prev: f64, f_next: f64, f_average: f64) -> bool
+    ensures { λ r. ⌜ r ≡ splits «f_prev» «f_next» «f_average» ⌝ }
+{
+    if discriminant(f_prev, f_next, f_average) > 0.0 {
         return d_av(f_prev, f_next) >= 0.0;
     }
     false
 }
 
-// Whether a parabola that passes both tests is split at this ratio: at any, or only where it is then no longer than its period. A NaN is not above 0.
-fn ratio_passes(any: bool, x_ratio: f64) -> bool
-    ensures { λ r. ⌜ r ≡ (any || inPeriod «x_ratio») ⌝ }
+// The safe rule's tests: ends at or above 0 can always touch it, but d_av rounds below 0 where an end is 0. A discriminant that is too large for a float is
+// a NaN, and passes.
+fn splits_safely(f_prev: f64, f_next: f64, f_average: f64) -> bool
+    ensures { λ r. ⌜ r ≡ splitsSafely «f_prev» «f_next» «f_average» ⌝ }
 {
+    if discriminant(f_prev, f_next, f_average) <= 0.0 {
+        return false;
+    }
+    0.0 <= f_prev && 0.0 <= f_next
+}
+
+fn passes(safe: bool, f_prev: f64, f_next: f64, f_average: f64) -> bool
+    ensures { λ r. ⌜ r ≡ passes safe «f_prev» «f_next» «f_average» ⌝ }
+{
+    if safe {
+        return splits_safely(f_prev, f_next, f_average);
+    }
+    splits(f_prev, f_next, f_average)
+}
+
+// Whether a parabola that passes the tests is split at this ratio: at any; where it is then no longer than its period; or where it is moreover not squeezed
+// to next to nothing. A NaN is above nothing.
+fn ratio_passes(safe: bool, any: bool, x_ratio: f64) -> bool
+    ensures { λ r. ⌜ r ≡ ratioPasses safe any «x_ratio» ⌝ }
+{
+    if safe {
+        return NARROW < x_ratio && x_ratio <= 1.0;
+    }
     if any {
         return true;
     }
     0.0 < x_ratio && x_ratio <= 1.0
+}
+
+// Whether the safe rule would squeeze the parabola to next to nothing.
+fn squeezed_away(safe: bool, x_ratio: f64) -> bool
+    ensures { λ r. ⌜ r ≡ (safe && le «x_ratio» narrow) ⌝ }
+{
+    if safe {
+        return x_ratio <= NARROW;
+    }
+    false
 }
 
 impl QuadraticMin {
@@ -81,7 +139,8 @@ impl QuadraticMin {
     ) -> Self
         ensures { λ r. ⌜ r ≡ new «x_prev» «x_next» «f_prev» «f_next» «f_average» «prev_primitive» ⌝ }
     {
-        Self::by_ratio(
+        Self::by_rule(
+            false,
             true,
             x_prev,
             x_next,
@@ -103,7 +162,8 @@ impl QuadraticMin {
     ) -> Self
         ensures { λ r. ⌜ r ≡ careful «x_prev» «x_next» «f_prev» «f_next» «f_average» «prev_primitive» ⌝ }
     {
-        Self::by_ratio(
+        Self::by_rule(
+            false,
             false,
             x_prev,
             x_next,
@@ -114,8 +174,33 @@ impl QuadraticMin {
         )
     }
 
-    // Both rules in one place, so that the root is there once: it is long, and the compiler puts it in line only where it has one caller.
-    fn by_ratio(
+    // The safe split: as the careful one, but its tests decide as exact arithmetic would. A parabola that would be squeezed to next to nothing is flat at its
+    // average.
+    pub fn safe(
+        x_prev: f64,
+        x_next: f64,
+        f_prev: f64,
+        f_next: f64,
+        f_average: f64,
+        prev_primitive: f64,
+    ) -> Self
+        ensures { λ r. ⌜ r ≡ safe «x_prev» «x_next» «f_prev» «f_next» «f_average» «prev_primitive» ⌝ }
+    {
+        Self::by_rule(
+            true,
+            false,
+            x_prev,
+            x_next,
+            f_prev,
+            f_next,
+            f_average,
+            prev_primitive,
+        )
+    }
+
+    // All rules in one place, so that the root is there once: it is long, and the compiler puts it in line only where it has one caller.
+    fn by_rule(
+        safe: bool,
         any: bool,
         x_prev: f64,
         x_next: f64,
@@ -124,12 +209,13 @@ impl QuadraticMin {
         f_average: f64,
         prev_primitive: f64,
     ) -> Self
-        ensures { λ r. ⌜ r ≡ splitAt any «x_prev» «x_next» «f_prev» «f_next» «f_average» «prev_primitive» ⌝ }
+        ensures { λ r. ⌜ r ≡ splitAt safe any «x_prev» «x_next» «f_prev» «f_next» «f_average» «prev_primitive» ⌝ }
     {
-        let tests_pass = splits(f_prev, f_next, f_average);
+        let tests_pass = passes(safe, f_prev, f_next, f_average);
         if tests_pass {
-            let touching = av_root(f_prev, f_next);
-            if ratio_passes(any, f_average / touching) {
+            let touching = turning(safe, f_prev, f_next);
+            let x_ratio = f_average / touching;
+            if ratio_passes(safe, any, x_ratio) {
                 return Self::split(
                     x_prev,
                     x_next,
@@ -138,6 +224,16 @@ impl QuadraticMin {
                     f_average,
                     prev_primitive,
                     touching,
+                );
+            }
+            if squeezed_away(safe, x_ratio) {
+                return Self::unsplit(
+                    x_prev,
+                    x_next,
+                    f_average,
+                    f_average,
+                    f_average,
+                    prev_primitive,
                 );
             }
         }
