@@ -2,4 +2,5 @@ pub mod Checks
 pub mod Counts
 pub mod Outcomes
 pub mod Sound
+pub mod Nodes
 pub mod Unique

@@ -1,6 +1,6 @@
 -- The tests of a table pass exactly when it is sound, and those of sizes exactly when there is room.
 use Prim.Native.Nat.{ℕ, _-_, _*_}
-use mathlib.Core.Bool.{_||_}
+use mathlib.Core.Bool.{false, _||_}
 use mathlib.Core.List.{List}
 use mathlib.Core.Path.{_≡_}
 use borrow.Author.Tests.{ltb-false, le-ltb, eqb-true, eq-eqb, not-false}
@@ -12,13 +12,13 @@ use Rattle.numbers.proofs.Ways.{or-none}
 use Rattle.refusal.specs.Refusal.{first}
 use Rattle.refusal.specs.declared.Verdict.the-variants as verdict
 use Rattle.refusal.proofs.First.{passed}
-use Rattle.table.specs.Check.{tableTests, roomTests}
+use Rattle.table.specs.Check.{tableTests, averageBelow, roomTests}
 use Rattle.table.specs.Sound.{Sound, Room}
 use Rattle.table.specs.declared.method.ConvexMonotone.{ConvexMonotone}
 
 module _ (x y : List Float) (method : ConvexMonotone) where
-  pub sound : first (tableTests x y method) ≡ verdict.Accepted → Sound x y method
-  sound h =
+  pub sound : first (tableTests x y method) ≡ verdict.Accepted → averageBelow y method ≡ false → Sound x y method
+  sound h signs =
       let (same, (monotonicity, (quadraticity, (low, (knots, (averages, (rise, _))))))) = passed (tableTests x y method) h in
       record {
         same = eqb-true _ _ (not-false _ same);
@@ -28,6 +28,7 @@ module _ (x y : List Float) (method : ConvexMonotone) where
         knots = not-false _ knots;
         averages = not-false _ averages;
         rise = not-false _ rise;
+        signs = signs;
       }
 
   pub is-sound : Sound x y method → first (tableTests x y method) ≡ verdict.Accepted

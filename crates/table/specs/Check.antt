@@ -9,9 +9,10 @@ use Rattle.numbers.specs.Every.{allBelow}
 use Rattle.numbers.specs.Words.{zero, one, finite}
 use Rattle.refusal.specs.Refusal.{Test, _⇒_}
 use Rattle.numbers.specs.Sizes.{slotCount}
-use Rattle.refusal.specs.declared.Refusal.the-variants.{LengthsDiffer, MonotonicityOutside, QuadraticityOutside, TooFewPoints, KnotNotFinite, AverageNotFinite, KnotsNotRising, SeamTooLong, TooManyPoints, BufferTooShort}
+use Rattle.refusal.specs.declared.Refusal.the-variants.{LengthsDiffer, MonotonicityOutside, QuadraticityOutside, TooFewPoints, KnotNotFinite, AverageNotFinite, KnotsNotRising, SeamTooLong, TooManyPoints, BufferTooShort, AverageBelowZero}
 use Rattle.table.specs.declared.check.Knots.{Knots}
 use Rattle.table.specs.declared.method.ConvexMonotone.{ConvexMonotone}
+use Rattle.table.specs.Method.{safely}
 use Rattle.table.specs.declared.ends.Seam.{Seam}
 use Rattle.table.specs.declared.ends.Seam.the-variants as seam
 use Rattle.table.specs.Table.{at}
@@ -58,3 +59,15 @@ roomTests n nodes tags slots = (ltb 4096 n ⇒ TooManyPoints) ∷ (noRoom n node
 -- 8
 abbrev pub seamTest : Seam → ℕ → Test
 seamTest s n = seamTooLong s n ⇒ SeamTooLong
+
+-- each average that is read is at or above 0; the first is not read
+unfoldable pub fromZero : List Float → Bool
+unfolding allBelow
+fromZero ys = allBelow (length ys - 1) (λ i. le zero (at ys (i + 1)))
+
+-- 29, our own: in the safe mode an average is below 0
+abbrev pub averageBelow : List Float → ConvexMonotone → Bool
+averageBelow y method = safely method && not (fromZero y)
+
+abbrev pub signTest : List Float → ConvexMonotone → Test
+signTest y method = averageBelow y method ⇒ AverageBelowZero

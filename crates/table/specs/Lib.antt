@@ -3,3 +3,4 @@ pub mod Table
 pub mod Check
 pub mod Sound
 pub mod Buffers
+pub mod Safe

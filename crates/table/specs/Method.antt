@@ -1,5 +1,5 @@
--- 000, ConvexMonotone. 01, Queries, settings and growth: the defaults. 02, K3: the mode of the split is part of the settings.
-use mathlib.Core.Bool.{Bool, true}
+-- 000, ConvexMonotone. 01, Queries, settings and growth: the defaults. 02, K3: the mode of the split is part of the settings. The safe mode is our own.
+use mathlib.Core.Bool.{Bool, true, false, _&&_}
 use lib.Ieee.{Float}
 use Rattle.numbers.specs.Words.{threeTenths, sevenTenths}
 use Rattle.table.specs.declared.method.ConvexMonotone.{ConvexMonotone}
@@ -13,6 +13,15 @@ new q m positive = record { quadraticity = q; monotonicity = m; «force_positive
 abbrev pub withSplit : Split → ConvexMonotone → ConvexMonotone
 withSplit mode m =
     record { quadraticity = m .quadraticity; monotonicity = m .monotonicity; «force_positive» = m .«force_positive»; split = mode }
+
+abbrev pub isSafe : Split → Bool
+isSafe split.Original = false
+isSafe split.Careful = false
+isSafe split.Safe = true
+
+-- the safe mode, which asks for positivity too
+abbrev pub safely : ConvexMonotone → Bool
+safely m = isSafe (m .split) && m .«force_positive»
 
 abbrev pub defaults : ConvexMonotone
 defaults = new threeTenths sevenTenths true

@@ -10,7 +10,7 @@ ghost use mathlib.Core.List.{[], _∷_};
 ghost use Prim.Native.Nat.{_≤_};
 ghost use lib.ListN.{length};
 ghost use Rattle.refusal.specs.Refusal.{first};
-ghost use Rattle.table.specs.Check.{allFinite, knotsOf, inUnit, seamTooLong, noRoom, tableTests, seamTest, roomTests};
+ghost use Rattle.table.specs.Check.{allFinite, knotsOf, inUnit, fromZero, seamTooLong, averageBelow, noRoom, tableTests, seamTest, roomTests};
 
 // These loops count what holds, and no test leaves them early: a refused table is rare, and a loop that always runs to its end goes several numbers at a
 // time. With flags it does so too, but on Arm the compiler packs sixteen of them into one register, and reads a table of fewer knots one by one.
@@ -105,6 +105,31 @@ pub fn seam_too_long(seam: Seam, points: usize) -> bool
             points - 1 <= count
         }
     }
+}
+
+// Whether each average that is read is at or above 0. The first is not read.
+fn from_zero(ys: &[f64]) -> bool
+    ensures { λ r. ⌜ r ≡ fromZero (now (ys .entry)) ⌝ }
+{
+    if ys.len() == 0 {
+        return true;
+    }
+    let read = ys.len() - 1;
+    let mut counted = 0;
+    for i in 0..read {
+        counted += (0.0 <= ys[i + 1]) as usize;
+    }
+    counted == read
+}
+
+// Refusal 29: no curve at or above 0 can keep an average below it.
+pub fn average_below(ys: &[f64], method: ConvexMonotone) -> bool
+    ensures { λ r. ⌜ r ≡ averageBelow (now (ys .entry)) method ⌝ }
+{
+    if method.is_safe() {
+        return !from_zero(ys);
+    }
+    false
 }
 
 // Refusals 10 and 11, for lent buffers of these lengths.

@@ -1,12 +1,23 @@
 // The settings of the method, passed whole.
 ghost use mathlib.Core.Path.{_≡_};
-ghost use Rattle.table.specs.Method.{new, defaults, withSplit};
+ghost use Rattle.table.specs.Method.{new, defaults, withSplit, isSafe, safely};
 
 // When positivity splits a parabola. The original does so wherever its two tests pass, also where the period then loses its average. The careful split
-// leaves such a parabola whole.
+// leaves such a parabola whole. The safe split decides as exact arithmetic would, so that no price falls below 0 either; its table has no average below 0.
 pub enum Split {
     Original,
     Careful,
+    Safe,
+}
+
+fn is_safe(split: Split) -> bool
+    ensures { λ r. ⌜ r ≡ isSafe split ⌝ }
+{
+    match split {
+        Split::Original => false,
+        Split::Careful => false,
+        Split::Safe => true,
+    }
 }
 
 pub struct ConvexMonotone {
@@ -45,6 +56,17 @@ impl ConvexMonotone {
             force_positive: self.force_positive,
             split,
         }
+    }
+
+    // Whether prices are to be safe: the safe split with positivity. Without positivity the safe split is the original's.
+    pub fn is_safe(self) -> bool
+        ensures { λ r. ⌜ r ≡ safely self ⌝ }
+    {
+        let split = self.split;
+        if is_safe(split) {
+            return self.force_positive;
+        }
+        false
     }
 
     pub fn defaults() -> Self
