@@ -7,6 +7,7 @@ use Rattle.numbers.proofs.Ways.{of-both}
 use Rattle.section.specs.declared.section.Section.{Section}
 use Rattle.section.specs.declared.section.Section.the-variants as section
 use Rattle.section.specs.declared.constant_grad.ConstantGrad.{ConstantGrad}
+use Rattle.section.specs.declared.everywhere_constant.EverywhereConstant.{EverywhereConstant}
 use Rattle.convex.specs.declared.convex_monotone2.ConvexMonotone2.{ConvexMonotone2}
 use Rattle.convex.specs.declared.convex_monotone3.ConvexMonotone3.{ConvexMonotone3}
 use Rattle.section.specs.declared.combination.Combination.{Combination}
@@ -21,8 +22,8 @@ use Rattle.choice.specs.Regions.{flat, minFits, inFirst}
 use Rattle.section.specs.QuadraticPart as quadratic
 use Rattle.choice.specs.QuadraticPart.{made, minKind, quadraticPart}
 use Rattle.section.specs.ConvexMonotonePart as convex
-use Rattle.choice.specs.ConvexPart.{fourth, second, third, convexPart}
-use Rattle.choice.specs.Choice.{sectionOf, shaped, firstRegion, mixed}
+use Rattle.choice.specs.ConvexPart.{fourth, fourthMin, second, third, convexPart}
+use Rattle.choice.specs.Choice.{sectionOf, bySteps, atZero, shaped, firstRegion, mixed}
 use Rattle.choice.proofs.Laws.{all-quadratic, convex-alone}
 
 -- with positivity no plain fourth kind, without it no Min kind, by itself or in a combination
@@ -99,7 +100,11 @@ convex-no-quadratic (other.ConvexMonotone3 s) = refl
 convex-no-quadratic (other.ConvexMonotone4 s) = refl
 convex-no-quadratic (other.ConvexMonotone4Min s) = refl
 
--- ---- a line, and two parts
+-- ---- a constant, a line, and two parts
+constant-suits : (positive : Bool) (s : EverywhereConstant) → suits positive (section.EverywhereConstant s) ≡ true
+unfolding suits
+constant-suits positive s = refl
+
 line-suits : (positive : Bool) (s : ConstantGrad) → suits positive (section.ConstantGrad s) ≡ true
 unfolding suits
 line-suits positive s = refl
@@ -138,7 +143,7 @@ module _ (method : ConvexMonotone) (period : Period) (P N : Float) where
   open ConvexMonotone method using («force_positive», split)
 
   fourth-suits : (eta : Float) → convexSuits «force_positive» (fourth method period P N eta) ≡ true
-  unfolding fourth convexSuits
+  unfolding fourth fourthMin convexSuits
   fourth-suits eta = by-positivity «force_positive» _ _ refl refl
 
   convex-suits : convexSuits «force_positive» (convexPart method period P N) ≡ true
@@ -162,9 +167,10 @@ module _ (method : ConvexMonotone) (period : Period) where
 
   -- whatever the settings and the numbers
   pub kinds-suit : suits «force_positive» (sectionOf method period) ≡ true
-  unfolding sectionOf shaped firstRegion mixed
+  unfolding sectionOf bySteps shaped firstRegion mixed
   kinds-suit =
       search (
+        constant-suits,
         either (suits «force_positive»),
         either (quadraticSuits «force_positive»),
         line-suits,
@@ -176,9 +182,9 @@ module _ (method : ConvexMonotone) (period : Period) where
         made-positive,
       ) depth 8
 
-  pub quadratic-at-one : flat P N ≡ false → lt quadraticity one ≡ false → onlyQuadratic (sectionOf method period) ≡ true
+  pub quadratic-at-one : flat P N ≡ false → lt quadraticity one ≡ false → onlyQuadratic (bySteps method period) ≡ true
   quadratic-at-one f q = rw (all-quadratic method period f q) (search quadratic-only)
 
   pub convex-at-zero : flat P N ≡ false → lt quadraticity one ≡ true → inFirst P N ≡ false → lt zero quadraticity ≡ false →
-      noQuadratic (sectionOf method period) ≡ true
+      noQuadratic (bySteps method period) ≡ true
   convex-at-zero f b r q = rw (convex-alone method period f b r q) (search convex-no-quadratic)

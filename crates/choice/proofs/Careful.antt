@@ -1,11 +1,10 @@
--- 02, K3: a section in careful mode is the original's, or the original's with its Min parabola not split; and none that is split is longer than its period.
+-- 02, K3: a section in careful mode is the original's, or the original's with its Min parabola not split; none that is split is longer than its period.
 use mathlib.Core.Bool.{Bool, true, false, cond}
 use mathlib.Core.Logic.{_⊎_, inl, inr, ⊎-elim}
 use mathlib.Core.Path.{_≡_, refl, sym, ap, _∙_}
 use lib.Ieee.{Float, le, lt}
-use Rattle.numbers.specs.Words.{_⊖_, _⊘_, zero, one, finite}
+use Rattle.numbers.specs.Words.{_⊖_, _⊘_, zero, one}
 use Rattle.numbers.specs.OneOutcome.{Follows}
-use Rattle.numbers.proofs.Sums.{length-from-zero}
 use Rattle.quadratic.specs.Quadratic as quadratic
 use Rattle.quadratic.specs.QuadraticMin as quadmin
 use Rattle.quadratic.specs.declared.quadratic.Quadratic.{Quadratic}
@@ -31,8 +30,8 @@ use Rattle.table.specs.declared.method.Split.the-variants as split
 use Rattle.choice.specs.declared.period.Period.{Period}
 use Rattle.choice.specs.Regions.{flat, inFirst}
 use Rattle.choice.specs.QuadraticPart.{minOf, made, minKind}
-use Rattle.choice.specs.ConvexPart.{fourth, second, third, convexPart}
-use Rattle.choice.specs.Choice.{firstRegion, mixed, shaped, sectionOf}
+use Rattle.choice.specs.ConvexPart.{fourth, fourthMin, second, third, convexPart}
+use Rattle.choice.specs.Choice.{firstRegion, mixed, shaped, bySteps, sectionOf}
 use Rattle.choice.specs.Careful.{wholeMin, wholePart, wholeSection, minWithin, partWithin, within}
 use Rattle.choice.proofs.section_of.Reads as section-of
 
@@ -41,7 +40,7 @@ if-split : (b t : Bool) → (b ≡ true → t ≡ true) → cond b t true ≡ tr
 if-split true t h = h refl
 if-split false t h = refl
 
-split-within : (length : Float) (s : QuadraticMin) → (s .«split_region» ≡ true → le (s .«x_scaling») length ≡ true) → minWithin length s ≡ true
+pub split-within : (length : Float) (s : QuadraticMin) → (s .«split_region» ≡ true → le (s .«x_scaling») length ≡ true) → minWithin length s ≡ true
 unfolding minWithin
 split-within length s h = if-split (s .«split_region») (le (s .«x_scaling») length) h
 
@@ -50,7 +49,7 @@ module _ (line : ConstantGrad) (plain : Quadratic) (other : ConvexMonotonePart) 
   abbrev partOf : Bool → QuadraticMin → QuadraticPart
   partOf kind s = cond kind (part-kind.QuadraticMin s) (part-kind.Quadratic plain)
 
-  unfoldable answered : Bool → Bool → Bool → Bool → Bool → Bool → QuadraticMin → Section
+  unfoldable pub answered : Bool → Bool → Bool → Bool → Bool → Bool → QuadraticMin → Section
   answered is-flat below first above kind positive s =
       cond is-flat (section.ConstantGrad line)
       (cond below
@@ -80,7 +79,7 @@ module _ (line : ConstantGrad) (plain : Quadratic) (other : ConvexMonotonePart) 
       convex-whole (convex-kind.ConvexMonotone4Min c) = refl
 
   -- what the choice makes of a parabola is no longer than that
-  answered-within : (length : Float) (is-flat below first above kind positive : Bool) (s : QuadraticMin) → minWithin length s ≡ true →
+  pub answered-within : (length : Float) (is-flat below first above kind positive : Bool) (s : QuadraticMin) → minWithin length s ≡ true →
       within length (answered is-flat below first above kind positive s) ≡ true
   unfolding answered within partWithin
   answered-within length true below first above kind positive s h = refl
@@ -110,17 +109,21 @@ module _ (method : ConvexMonotone) (period : Period) where
   abbrev N : Float
   N = «f_next» ⊖ «f_average»
 
-  -- the choice of these settings and this period, whatever the mode
+  -- the choice of these settings and this period, in either of the two modes
   abbrev chosen : QuadraticMin → Section
   chosen s =
       answered (grad.new «f_prev» «prev_primitive» «x_prev» «x_next» «f_next»)
       (quadratic.new «x_prev» «x_next» «f_prev» «f_next» «f_average» «prev_primitive»)
-      (convexPart method period P N) quadraticity
+      (convexPart (withSplit split.Original method) period P N) quadraticity
       (flat P N) (lt quadraticity one) (inFirst P N) (lt zero quadraticity) (minKind method P N) «force_positive» s
 
-  in-mode : (mode : Split) → sectionOf (withSplit mode method) period ≡ chosen (minOf period mode)
-  unfolding answered sectionOf shaped firstRegion mixed made minKind convexPart second third fourth
-  in-mode mode = refl
+  as-original : sectionOf (withSplit split.Original method) period ≡ chosen (minOf period split.Original)
+  unfolding answered sectionOf bySteps shaped firstRegion mixed made minKind convexPart second third fourth fourthMin
+  as-original = refl
+
+  as-careful : sectionOf (withSplit split.Careful method) period ≡ chosen (minOf period split.Careful)
+  unfolding answered sectionOf bySteps shaped firstRegion mixed made minKind convexPart second third fourth fourthMin
+  as-careful = refl
 
   abbrev original : Section
   original = sectionOf (withSplit split.Original method) period
@@ -130,20 +133,20 @@ module _ (method : ConvexMonotone) (period : Period) where
 
   -- the modes agree where the original does not split, and where its ratio is above 0 and at most 1
   pub agree-unsplit : quadmin.splits «f_prev» «f_next» «f_average» ≡ false → carefully ≡ original
-  agree-unsplit h = in-mode split.Careful ∙ ap chosen (quadratic-careful.agree-unsplit «x_prev» «x_next» «f_prev» «f_next» «f_average» «prev_primitive» h) ∙ sym (in-mode split.Original)
+  agree-unsplit h = as-careful ∙ ap chosen (quadratic-careful.agree-unsplit «x_prev» «x_next» «f_prev» «f_next» «f_average» «prev_primitive» h) ∙ sym as-original
 
   pub agree-in-period : quadmin.inPeriod («f_average» ⊘ quadmin.«av_root» «f_prev» «f_next») ≡ true → carefully ≡ original
-  agree-in-period h = in-mode split.Careful ∙ ap chosen (quadratic-careful.agree-in-period «x_prev» «x_next» «f_prev» «f_next» «f_average» «prev_primitive» h) ∙ sym (in-mode split.Original)
+  agree-in-period h = as-careful ∙ ap chosen (quadratic-careful.agree-in-period «x_prev» «x_next» «f_prev» «f_next» «f_average» «prev_primitive» h) ∙ sym as-original
 
   pub either-section : (carefully ≡ original) ⊎ (carefully ≡ wholeSection period original)
   either-section =
       ⊎-elim
-      (λ e. inl (in-mode split.Careful ∙ ap chosen e ∙ sym (in-mode split.Original)))
-      (λ e. inr (in-mode split.Careful ∙ ap chosen e ∙ answered-whole _ _ _ _ period _ _ _ _ _ _ (minOf period split.Original) ∙ ap (wholeSection period) (sym (in-mode split.Original))))
+      (λ e. inl (as-careful ∙ ap chosen e ∙ sym as-original))
+      (λ e. inr (as-careful ∙ ap chosen e ∙ answered-whole _ _ _ _ period _ _ _ _ _ _ (minOf period split.Original) ∙ ap (wholeSection period) (sym as-original)))
       (either-record «x_prev» «x_next» «f_prev» «f_next» «f_average» «prev_primitive»)
 
   pub carefully-within : le zero («x_next» ⊖ «x_prev») ≡ true → within («x_next» ⊖ «x_prev») carefully ≡ true
-  carefully-within h = rw (in-mode split.Careful) (answered-within _ _ _ _ («x_next» ⊖ «x_prev») _ _ _ _ _ _ (minOf period split.Careful) min-within)
+  carefully-within h = rw as-careful (answered-within _ _ _ _ («x_next» ⊖ «x_prev») _ _ _ _ _ _ (minOf period split.Careful) min-within)
     where
       min-within : minWithin («x_next» ⊖ «x_prev») (minOf period split.Careful) ≡ true
       min-within = split-within («x_next» ⊖ «x_prev») (minOf period split.Careful) (λ k. not-stretched «x_prev» «x_next» «f_prev» «f_next» «f_average» «prev_primitive» k h)
@@ -163,13 +166,3 @@ returned-either κ a r s allowed mode o original-allowed =
     (λ e. inl (is ∙ e ∙ sym original-allowed))
     (λ e. inr (is ∙ e ∙ ap (wholeSection period) (sym original-allowed)))
     (either-section method period)
-
--- between rising knots
-pub returned-within : Follows section-of.Post (λ κ a r s.
-    let (method, (period, rest)) = a in
-    method .split ≡ split.Careful → finite (period .«x_prev») ≡ true → finite (period .«x_next») ≡ true → lt (period .«x_prev») (period .«x_next») ≡ true →
-    within (period .«x_next» ⊖ period .«x_prev») r ≡ true)
-returned-within κ a r s allowed mode left right rise =
-    let (method, (period, rest)) = a in
-    let is : r ≡ carefully method period = allowed ∙ ap (λ (m : ConvexMonotone). sectionOf m period) (in-careful method mode) in
-    rw is (carefully-within method period (length-from-zero (period .«x_prev») (period .«x_next») left right rise))

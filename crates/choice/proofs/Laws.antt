@@ -13,7 +13,7 @@ use Rattle.section.specs.QuadraticPart as quadratic
 use Rattle.choice.specs.QuadraticPart.{made, minKind}
 use Rattle.section.specs.ConvexMonotonePart as convex
 use Rattle.choice.specs.ConvexPart.{convexPart}
-use Rattle.choice.specs.Choice.{sectionOf, shaped, firstRegion, mixed}
+use Rattle.choice.specs.Choice.{bySteps, shaped, firstRegion, mixed}
 use Rattle.choice.proofs.Signs.{less-or-equal}
 
 -- One law for each case of the choice.
@@ -29,35 +29,35 @@ module _ (method : ConvexMonotone) (period : Period) where
 
   -- both nodes on the average: a straight line, whatever the settings
   pub straight : lt (abs P) tiny ≡ true → lt (abs N) tiny ≡ true →
-      sectionOf method period ≡ section.ConstantGrad (grad.new «f_prev» «prev_primitive» «x_prev» «x_next» «f_next»)
-  unfolding sectionOf flat
+      bySteps method period ≡ section.ConstantGrad (grad.new «f_prev» «prev_primitive» «x_prev» «x_next» «f_next»)
+  unfolding bySteps flat
   straight p n = rw (p, n)
 
   module _ (bent : flat P N ≡ false) where
     -- a quadraticity that is not below 1.0: the quadratic part of step 2 by itself, in every region
-    pub all-quadratic : lt quadraticity one ≡ false → sectionOf method period ≡ quadratic.alone (made period split («force_positive» && minFits P N))
-    unfolding sectionOf shaped minKind
+    pub all-quadratic : lt quadraticity one ≡ false → bySteps method period ≡ quadratic.alone (made period split («force_positive» && minFits P N))
+    unfolding bySteps shaped minKind
     all-quadratic q = rw (bent, q)
 
     module _ (below : lt quadraticity one ≡ true) where
       -- the first region: no convex-monotone part and no weight
       pub first-mixed : inFirst P N ≡ true → lt zero quadraticity ≡ true →
-          sectionOf method period ≡ quadratic.alone (made period split («force_positive» && minFits P N))
-      unfolding sectionOf shaped firstRegion minKind
+          bySteps method period ≡ quadratic.alone (made period split («force_positive» && minFits P N))
+      unfolding bySteps shaped firstRegion minKind
       first-mixed f q = rw (bent, below, f, q)
 
-      pub first-convex : inFirst P N ≡ true → lt zero quadraticity ≡ false → sectionOf method period ≡ quadratic.alone (made period split «force_positive»)
-      unfolding sectionOf shaped firstRegion
+      pub first-convex : inFirst P N ≡ true → lt zero quadraticity ≡ false → bySteps method period ≡ quadratic.alone (made period split «force_positive»)
+      unfolding bySteps shaped firstRegion
       first-convex f q = rw (bent, below, f, q)
 
       -- outside it: two parts, weighted by the quadraticity, or the one part
       pub both-parts : inFirst P N ≡ false → lt zero quadraticity ≡ true →
-          sectionOf method period ≡ section.Combination (combination.new (made period split («force_positive» && minFits P N)) (convexPart method period P N) quadraticity)
-      unfolding sectionOf shaped mixed minKind
+          bySteps method period ≡ section.Combination (combination.new (made period split («force_positive» && minFits P N)) (convexPart method period P N) quadraticity)
+      unfolding bySteps shaped mixed minKind
       both-parts f q = rw (bent, below, f, q)
 
-      pub convex-alone : inFirst P N ≡ false → lt zero quadraticity ≡ false → sectionOf method period ≡ convex.alone (convexPart method period P N)
-      unfolding sectionOf shaped mixed
+      pub convex-alone : inFirst P N ≡ false → lt zero quadraticity ≡ false → bySteps method period ≡ convex.alone (convexPart method period P N)
+      unfolding bySteps shaped mixed
       convex-alone f q = rw (bent, below, f, q)
 
 -- The original asks whether the quadraticity equals 0.0 or 1.0.

@@ -4,3 +4,6 @@ pub mod Answers
 pub mod Signs
 pub mod Ways
 pub mod Careful
+pub mod Safe
+pub mod Etas
+pub mod Finite

@@ -1,12 +1,14 @@
--- 01, Choosing a section.
-use mathlib.Core.Bool.{cond}
-use lib.Ieee.{Float, lt}
+-- 01, Choosing a section. Our own: a period that traded at 0, in the safe mode.
+use mathlib.Core.Bool.{Bool, cond, _&&_}
+use lib.Ieee.{Float, lt, eq}
 use Rattle.numbers.specs.Words.{_⊖_, zero, one}
 use Rattle.section.specs.declared.quadratic_part.QuadraticPart.{QuadraticPart}
 use Rattle.section.specs.declared.section.Section.{Section}
 use Rattle.section.specs.declared.section.Section.the-variants as section
 use Rattle.section.specs.ConstantGrad as grad
+use Rattle.section.specs.EverywhereConstant as constant
 use Rattle.section.specs.Combination as combination
+use Rattle.table.specs.Method.{safely}
 use Rattle.table.specs.declared.method.ConvexMonotone.{ConvexMonotone}
 use Rattle.choice.specs.declared.period.Period.{Period}
 use Rattle.choice.specs.Regions.{flat, inFirst}
@@ -46,8 +48,16 @@ module _ (method : ConvexMonotone) (period : Period) where
   N = «f_next» ⊖ «f_average»
 
   -- step 1, then the others
-  unfoldable pub sectionOf : Section
-  sectionOf =
+  unfoldable pub bySteps : Section
+  bySteps =
       cond (flat P N)
       (section.ConstantGrad (grad.new «f_prev» «prev_primitive» «x_prev» «x_next» «f_next»))
       (shaped method period P N)
+
+  -- in the safe mode a period that traded at 0 is 0 everywhere: nothing else at or above 0 has that average
+  abbrev pub atZero : Bool
+  atZero = safely method && eq «f_average» zero
+
+  unfoldable pub sectionOf : Section
+  unfolding bySteps
+  sectionOf = cond atZero (section.EverywhereConstant (constant.new zero «prev_primitive» «x_prev»)) bySteps

@@ -1,13 +1,15 @@
--- 01, Choosing a section: step 3 outside the first region.
+-- 01, Choosing a section: step 3 outside the first region. Our own: the fourth kind in the safe mode.
 use mathlib.Core.Bool.{cond}
 use lib.Ieee.{Float, lt}
 use Rattle.numbers.specs.Words.{_⊕_, _⊖_, _⊗_, _⊘_, one, two, three}
+use Rattle.convex.specs.declared.convex_monotone4_min.ConvexMonotone4Min.{ConvexMonotone4Min}
 use Rattle.section.specs.declared.convex_monotone_part.ConvexMonotonePart.{ConvexMonotonePart}
 use Rattle.section.specs.declared.convex_monotone_part.ConvexMonotonePart.the-variants as part
 use Rattle.convex.specs.ConvexMonotone2 as cm2
 use Rattle.convex.specs.ConvexMonotone3 as cm3
 use Rattle.convex.specs.ConvexMonotone4 as cm4
 use Rattle.convex.specs.ConvexMonotone4Min as cm4min
+use Rattle.table.specs.Method.{safely}
 use Rattle.table.specs.declared.method.ConvexMonotone.{ConvexMonotone}
 use Rattle.choice.specs.declared.period.Period.{Period}
 use Rattle.choice.specs.Regions.{inSecond, inThird}
@@ -29,10 +31,14 @@ module _ (method : ConvexMonotone) (period : Period) (P N : Float) where
   open ConvexMonotone method using («force_positive»)
   open Period period using («x_prev», «x_next», «f_average», «prev_primitive»)
 
+  unfoldable pub fourthMin : Float → ConvexMonotone4Min
+  fourthMin eta =
+      cm4min.inMode (safely method) «x_prev» «x_next» P N «f_average» eta «prev_primitive»
+
   unfoldable pub fourth : Float → ConvexMonotonePart
   fourth eta =
       cond «force_positive»
-      (part.ConvexMonotone4Min (cm4min.new «x_prev» «x_next» P N «f_average» eta «prev_primitive»))
+      (part.ConvexMonotone4Min (fourthMin eta))
       (part.ConvexMonotone4 (cm4.new «x_prev» «x_next» P N «f_average» eta «prev_primitive»))
 
   unfoldable pub second : ConvexMonotonePart

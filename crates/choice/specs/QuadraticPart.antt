@@ -18,6 +18,7 @@ module _ (period : Period) where
   abbrev pub minOf : Split → QuadraticMin
   minOf split.Original = quadmin.new «x_prev» «x_next» «f_prev» «f_next» «f_average» «prev_primitive»
   minOf split.Careful = quadmin.careful «x_prev» «x_next» «f_prev» «f_next» «f_average» «prev_primitive»
+  minOf split.Safe = quadmin.safe «x_prev» «x_next» «f_prev» «f_next» «f_average» «prev_primitive»
 
   -- of the Min kind or the plain one
   unfoldable pub made : Split → Bool → QuadraticPart

@@ -35,7 +35,8 @@ fn fourth(
     ensures { λ r. ⌜ r ≡ fourth method period «g_prev» «g_next» eta ⌝ }
 {
     if method.force_positive {
-        return ConvexMonotonePart::ConvexMonotone4Min(ConvexMonotone4Min::new(
+        return ConvexMonotonePart::ConvexMonotone4Min(ConvexMonotone4Min::in_mode(
+            method.is_safe(),
             period.x_prev,
             period.x_next,
             g_prev,

@@ -13,17 +13,25 @@ use crate::regions::in_first;
 use crate::regions::is_flat;
 use section::combination::Combination;
 use section::constant_grad::ConstantGrad;
+use section::everywhere_constant::EverywhereConstant;
 use section::section::Section;
 use table::method::ConvexMonotone;
 ghost use mathlib.Core.Path.{_≡_};
-ghost use Rattle.choice.specs.Choice.{sectionOf, shaped, mixed};
-ghost use Rattle.choice.specs.Steps.{firstKind};
+ghost use Rattle.choice.specs.Choice.{sectionOf, atZero, shaped, mixed};
+ghost use Rattle.choice.specs.Steps.{firstKind, isAlone, aloneKind};
 
 // Any settings are taken. Those outside [0, 1] a build refuses beforehand, so for them the original has no answer to match: a
 // quadraticity below 0.0 counts as 0.0, and one above 1.0 or a NaN as 1.0.
 pub fn section_of(method: ConvexMonotone, period: Period) -> Section
     ensures { λ r. ⌜ r ≡ sectionOf method period ⌝ }
 {
+    if at_zero(method, period) {
+        return Section::EverywhereConstant(EverywhereConstant::new(
+            0.0,
+            period.prev_primitive,
+            period.x_prev,
+        ));
+    }
     let g_prev = period.f_prev - period.f_average;
     let g_next = period.f_next - period.f_average;
     if is_flat(g_prev, g_next) {
@@ -38,16 +46,43 @@ pub fn section_of(method: ConvexMonotone, period: Period) -> Section
     shaped(method, period, g_prev, g_next)
 }
 
+// Whether the safe mode asks for a period that is 0 everywhere.
+fn at_zero(method: ConvexMonotone, period: Period) -> bool
+    ensures { λ r. ⌜ r ≡ atZero method period ⌝ }
+{
+    if method.is_safe() {
+        return period.f_average == 0.0;
+    }
+    false
+}
+
 fn shaped(method: ConvexMonotone, period: Period, g_prev: f64, g_next: f64) -> Section
     ensures { λ r. ⌜ r ≡ shaped method period «g_prev» «g_next» ⌝ }
 {
-    if method.quadraticity < 1.0 {
-        if in_first(g_prev, g_next) {
-            return made_alone(method, period, first_kind(method, g_prev, g_next));
-        }
-        return mixed(method, period, g_prev, g_next);
+    if is_alone(method, g_prev, g_next) {
+        return made_alone(method, period, alone_kind(method, g_prev, g_next));
     }
-    made_alone(method, period, min_kind(method, g_prev, g_next))
+    mixed(method, period, g_prev, g_next)
+}
+
+// Whether the quadratic part is all of the section. Both cases are made in one place, so that the compiler puts the making in line.
+fn is_alone(method: ConvexMonotone, g_prev: f64, g_next: f64) -> bool
+    ensures { λ r. ⌜ r ≡ isAlone method «g_prev» «g_next» ⌝ }
+{
+    if method.quadraticity < 1.0 {
+        return in_first(g_prev, g_next);
+    }
+    true
+}
+
+fn alone_kind(method: ConvexMonotone, g_prev: f64, g_next: f64) -> bool
+    ensures { λ r. ⌜ r ≡ aloneKind method «g_prev» «g_next» ⌝ }
+{
+    let weight = method.quadraticity;
+    if weight < 1.0 {
+        return first_kind(method, g_prev, g_next);
+    }
+    min_kind(method, g_prev, g_next)
 }
 
 // In the first region the quadratic part is all of the section. Step 2 has picked its kind, unless there was none to make: then

@@ -33,6 +33,14 @@ fn min_of(method: ConvexMonotone, period: Period) -> QuadraticMin
             period.f_average,
             period.prev_primitive,
         ),
+        Split::Safe => QuadraticMin::safe(
+            period.x_prev,
+            period.x_next,
+            period.f_prev,
+            period.f_next,
+            period.f_average,
+            period.prev_primitive,
+        ),
     }
 }
 
