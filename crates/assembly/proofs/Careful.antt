@@ -1,10 +1,10 @@
--- 02, K3: no split parabola in the records of a table in careful mode is longer than its period.
+-- 02, K3: in every mode but the original's no split parabola in the records of a table is longer than its period.
 use Prim.Native.Nat as nat
 use Prim.Native.Nat.{ℕ, suc, _+_, _-_, _*_, _≤_, _<_}
 use native.Mathlib.Omega.{arith}
 use mathlib.Core.Bool.{true, _&&_}
 use mathlib.Core.List.{List}
-use mathlib.Core.Path.{_≡_, refl, ap, _∙_}
+use mathlib.Core.Path.{_≡_, refl, ap}
 use lib.Dec.{eqb}
 use lib.Ieee.{Float, lt, le}
 use lib.ListN.{length}
@@ -19,18 +19,16 @@ use Rattle.table.specs.Method.{withSplit}
 use Rattle.table.specs.Table as nodes
 use Rattle.table.specs.Table.{at, nodeAt, firstNode, lastNode, middleAt, secondLast, totalAt}
 use Rattle.table.specs.declared.ends.Frame.{Frame}
-use Rattle.table.specs.declared.method.ConvexMonotone.{ConvexMonotone}
 use Rattle.table.specs.declared.method.Split.{Split}
 use Rattle.table.specs.declared.method.Split.the-variants as split
 use Rattle.choice.specs.Careful.{within}
-use Rattle.choice.specs.Choice.{sectionOf}
-use Rattle.choice.proofs.Careful.{in-careful, carefully-within}
+use Rattle.choice.proofs.Safe as safe
 use Rattle.assembly.specs.Careful.{WithinAt}
 use Rattle.assembly.specs.Making.{tagsAfter, slotsAfter}
 use Rattle.assembly.specs.Sections.{periodAt, shapedAt, heldAt, sectionAt}
 use Rattle.assembly.proofs.ReadBack.{record-read-back}
 
-module _ (x y : List Float) (frame : Frame) (knots : allFinite x ≡ true) (rise : rising x ≡ true) (careful : frame .method .split ≡ split.Careful) where
+module _ (x y : List Float) (frame : Frame) (knots : allFinite x ≡ true) (rise : rising x ≡ true) (other : frame .method .split ≡ split.Original → ⊥) where
   -- the length of a period between two knots is not below 0
   period-from-zero : (i : ℕ) → i < length x - 1 → le zero (at x (i + 1) ⊖ at x i) ≡ true
   unfolding allFinite rising
@@ -39,9 +37,7 @@ module _ (x y : List Float) (frame : Frame) (knots : allFinite x ≡ true) (rise
       length-from-zero (at x i) (at x (i + 1)) (known i (omega arith)) (known (i + 1) (omega arith)) (all-at (length x - 1) (λ k. lt (at x k) (at x (k + 1))) rise i l)
 
   shaped-within : (i : ℕ) → i < length x - 1 → within (at x (i + 1) ⊖ at x i) (shapedAt x y frame i) ≡ true
-  shaped-within i l =
-      ap (λ (m : ConvexMonotone). within (at x (i + 1) ⊖ at x i) (sectionOf m (periodAt x y frame i))) (in-careful (frame .method) careful)
-      ∙ carefully-within (frame .method) (periodAt x y frame i) (period-from-zero i l)
+  shaped-within i l = safe.section-within (frame .method) (periodAt x y frame i) other (period-from-zero i l)
 
   held-within : (i : ℕ) → within (at x (i + 1) ⊖ at x i) (heldAt x y frame i) ≡ true
   unfolding within

@@ -5,3 +5,4 @@ pub mod Sizes
 pub mod Unique
 pub mod InNumbers
 pub mod Careful
+pub mod Finite

@@ -1,4 +1,4 @@
--- 02, K3: what is claimed of the records of a table in careful mode.
+-- 02, K3: what is claimed of the records of a table in every mode but the original's.
 use Prim.Native.Nat.{ℕ, _+_}
 use mathlib.Core.Bool.{true}
 use mathlib.Core.List.{List}

@@ -1,4 +1,4 @@
--- An accepted table is sound and its buffers have room; only sizes are left to ask about where 1 to 8 are passed.
+-- An accepted table is sound and its buffers have room; only sizes are left to ask about where 1 to 8 and 29 are passed.
 use Prim.Native.Nat.{ℕ}
 use mathlib.Core.Bool.{false, not}
 use mathlib.Core.List.{List, [], _∷_}
@@ -11,8 +11,8 @@ use Rattle.refusal.specs.Refusal.{first, number, andThen}
 use Rattle.refusal.specs.declared.Refusal.{Refusal}
 use Rattle.refusal.specs.declared.Verdict.{Verdict}
 use Rattle.refusal.specs.declared.Verdict.the-variants as verdict
-use Rattle.refusal.proofs.First.{both-accept, first-append}
-use Rattle.table.specs.Check.{tableTests, seamTooLong, seamTest, roomTests}
+use Rattle.refusal.proofs.First.{passed, both-accept, first-append}
+use Rattle.table.specs.Check.{tableTests, seamTooLong, seamTest, signTest, roomTests}
 use Rattle.table.specs.Sound.{Sound, Room}
 use Rattle.table.specs.declared.method.ConvexMonotone.{ConvexMonotone}
 use Rattle.table.specs.declared.ends.Seam.{Seam}
@@ -26,9 +26,12 @@ use Rattle.curve.specs.declared.curve.Built.{Built}
 use Rattle.curve.specs.declared.curve.Built.the-variants as built
 
 module _ (x y : List Float) (method : ConvexMonotone) (seam : Seam) (nodes tags slots : ℕ) where
-  -- what has passed 1 to 8 is sound, and its seam fits
+  -- what has passed 1 to 8 and 29 is sound, and its seam fits
   pub seamed : first (seamedTests x y method seam) ≡ verdict.Accepted → Sound x y method
-  seamed h = sound x y method (both-accept _ _ (sym (first-append (tableTests x y method) (seamTest seam (length x) ∷ [])) ∙ h) .0)
+  seamed h =
+      let (numbers, others) = both-accept _ _ (sym (first-append (tableTests x y method) (seamTest seam (length x) ∷ signTest y method ∷ [])) ∙ h) in
+      let (_, (signs, _)) = passed (seamTest seam (length x) ∷ signTest y method ∷ []) others in
+      sound x y method numbers signs
 
   pub settled : first (seamedTests x y method seam) ≡ verdict.Accepted →
       first (buildTests x y method seam nodes tags slots) ≡ first (sizeTests (length x) (length y) nodes tags slots)
@@ -53,7 +56,7 @@ module _ (x y : List Float) (method : ConvexMonotone) (seam : Seam) (nodes tags 
   pub accepts : Sound x y method → seamTooLong seam (length x) ≡ false → Room (length x) nodes tags slots → first (buildTests x y method seam nodes tags slots) ≡ verdict.Accepted
   accepts s f r =
       first-append (seamedTests x y method seam) (roomTests (length x) nodes tags slots)
-      ∙ rw (first-append (tableTests x y method) (seamTest seam (length x) ∷ []), is-sound x y method s, f) (has-room (length x) nodes tags slots r)
+      ∙ rw (first-append (tableTests x y method) (seamTest seam (length x) ∷ signTest y method ∷ []), is-sound x y method s, f, s .signs) (has-room (length x) nodes tags slots r)
 
 -- an answer in numbers
 pub told-curve : (b : Built) (c : Curve) → b ≡ built.Curve c → record { refusal = 0; sections = c .sections; held = c .held; extrapolates = c .extrapolates; tail = c .tail } ≡ curveInNumbers b

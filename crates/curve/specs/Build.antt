@@ -9,7 +9,7 @@ use Rattle.numbers.specs.Words.{zero}
 use Rattle.refusal.specs.Refusal.{Test, first}
 use Rattle.refusal.specs.declared.Verdict.{Verdict}
 use Rattle.table.specs.Buffers.{Buffers, Outcome, judged}
-use Rattle.table.specs.Check.{tableTests, seamTest, roomTests}
+use Rattle.table.specs.Check.{tableTests, seamTest, signTest, roomTests}
 use Rattle.table.specs.declared.method.ConvexMonotone.{ConvexMonotone}
 use Rattle.table.specs.declared.ends.End.the-variants as end
 use Rattle.table.specs.declared.ends.Seam.{Seam}
@@ -19,9 +19,9 @@ use Rattle.assembly.specs.Making.{after}
 use Rattle.curve.specs.declared.curve.Built.{Built}
 use Rattle.curve.specs.declared.curve.Built.the-variants as built
 
--- refused in the order 1 to 8, 10, 11
+-- refused in the order 1 to 8, 29, 10, 11
 abbrev pub seamedTests : List Float → List Float → ConvexMonotone → Seam → List Test
-seamedTests x y method seam = tableTests x y method ++ (seamTest seam (length x) ∷ [])
+seamedTests x y method seam = tableTests x y method ++ (seamTest seam (length x) ∷ signTest y method ∷ [])
 
 abbrev pub buildTests : List Float → List Float → ConvexMonotone → Seam → ℕ → ℕ → ℕ → List Test
 buildTests x y method seam nodes tags slots = seamedTests x y method seam ++ roomTests (length x) nodes tags slots

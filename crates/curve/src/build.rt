@@ -5,6 +5,7 @@ use assembly::making::Made;
 use assembly::making::make;
 use refusal::Refusal;
 use refusal::Verdict;
+use table::check::average_below;
 use table::check::room_verdict;
 use table::check::seam_too_long;
 use table::check::table_verdict;
@@ -17,7 +18,7 @@ ghost use Rattle.refusal.specs.Refusal.{first};
 ghost use Rattle.table.specs.Buffers.{buffers, outcome};
 ghost use Rattle.curve.specs.Build.{seamedTests, buildTests, wholeFrame, buildOutcome};
 
-// Refusals 1 to 8.
+// Refusals 1 to 8 and 29.
 fn seamed_verdict(xs: &[f64], ys: &[f64], method: ConvexMonotone, seam: Seam) -> Verdict
     ensures { λ r. ⌜ r ≡ first (seamedTests (now (xs .entry)) (now (ys .entry)) method seam) ⌝ }
 {
@@ -27,6 +28,9 @@ fn seamed_verdict(xs: &[f64], ys: &[f64], method: ConvexMonotone, seam: Seam) ->
         Verdict::Accepted => {
             if seam_too_long(seam, xs.len()) {
                 return Verdict::Refused(Refusal::SeamTooLong);
+            }
+            if average_below(ys, method) {
+                return Verdict::Refused(Refusal::AverageBelowZero);
             }
             Verdict::Accepted
         }
