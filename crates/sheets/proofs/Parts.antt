@@ -3,7 +3,7 @@ use Prim.Native.Nat.{ℕ, _+_, _-_, _*_, _/_, _≤_, _<_}
 use native.Mathlib.Omega.{arith}
 use native.Mathlib.Nat.{le-refl, add-zero}
 use mathlib.Core.Bool.{Bool, true, false, not, _&&_, _||_}
-use mathlib.Core.List.{List, [], _++_, append-nil}
+use mathlib.Core.List.{List, [], _∷_, _++_, append-nil}
 use mathlib.Core.Path.{_≡_, refl, sym, ap, _∙_}
 use borrow.Author.Tests.{lt-ltb, le-ltb, eq-eqb, ltb-false, le-leb, leb-true}
 use borrow.Rule.Slice.PartMut.{midOf, postOf, putMid, mid-len, put-same}
@@ -17,12 +17,13 @@ use Rattle.numbers.proofs.Overlay.{drop-overlay, take-overlay}
 use Rattle.numbers.proofs.Every.{and-split}
 use Rattle.numbers.proofs.Ways.{never, or-none}
 use Rattle.refusal.specs.Refusal.{first, andThen}
-use Rattle.refusal.specs.declared.Refusal.the-variants.{NoGivenNode, TooManyPoints, BufferTooShort}
+use Rattle.refusal.specs.declared.Refusal.the-variants.{NoGivenNode, TooManyPoints, BufferTooShort, AverageBelowZero}
+use Rattle.refusal.specs.declared.Refusal.{Refusal}
 use Rattle.refusal.specs.declared.Verdict.{Verdict}
 use Rattle.refusal.specs.declared.Verdict.the-variants as verdict
-use Rattle.refusal.proofs.First.{next, both-accept, first-append}
+use Rattle.refusal.proofs.First.{next, passed, stops, goes-on, both-accept, first-append}
 use Rattle.table.specs.Buffers.{Buffers, Outcome, buffers}
-use Rattle.table.specs.Check.{tableTests, noRoom, roomTests}
+use Rattle.table.specs.Check.{tableTests, averageBelow, signTest, noRoom, roomTests}
 use Rattle.table.specs.Sound.{Sound, Room}
 use Rattle.table.specs.Table.{nodeAt}
 use Rattle.table.specs.declared.method.ConvexMonotone.{ConvexMonotone}
@@ -36,18 +37,30 @@ use Rattle.assembly.proofs.Sizes.{only-room}
 use Rattle.sheets.specs.Sheet.{noneGiven, numbersTests, sheetTests}
 use Rattle.sheets.specs.Steps.{reaches, partVerdict}
 
--- 16 comes first
+-- 16 comes first, and 29 after the others
 module _ (x y : List Float) (method : ConvexMonotone) (l r : End) where
   pub no-node : noneGiven l r ≡ true → verdict.Refused NoGivenNode ≡ first (numbersTests x y method l r)
   no-node h = rw h
 
-  pub has-node : (v : Verdict) → noneGiven l r ≡ false → v ≡ first (tableTests x y method) → v ≡ first (numbersTests x y method l r)
-  has-node v h e = rw h e
+  -- a sheet with a node, refused in 1 to 7, refused for a sign, and accepted
+  module _ (v : Verdict) (g : noneGiven l r ≡ false) (e : v ≡ first (tableTests x y method)) where
+    pub stopped : (q : Refusal) → v ≡ verdict.Refused q → v ≡ first (numbersTests x y method l r)
+    stopped q f = rw g (stops v q (tableTests x y method) (signTest y method ∷ []) e f)
+
+    pub below : v ≡ verdict.Accepted → averageBelow y method ≡ true → verdict.Refused AverageBelowZero ≡ first (numbersTests x y method l r)
+    below f h = rw g (goes-on v _ (tableTests x y method) (signTest y method ∷ []) e f (rw h))
+
+    pub from-zero : v ≡ verdict.Accepted → averageBelow y method ≡ false → verdict.Accepted ≡ first (numbersTests x y method l r)
+    from-zero f h = rw g (goes-on v _ (tableTests x y method) (signTest y method ∷ []) e f (rw h))
 
   pub numbers-sound : first (numbersTests x y method l r) ≡ verdict.Accepted → Sound x y method
-  numbers-sound h = let (_, others) = next (noneGiven l r) NoGivenNode (first (tableTests x y method)) h in sound x y method others
+  numbers-sound h =
+      let (_, others) = next (noneGiven l r) NoGivenNode (first (tableTests x y method ++ (signTest y method ∷ []))) h in
+      let (numbers, last) = both-accept _ _ (sym (first-append (tableTests x y method) (signTest y method ∷ [])) ∙ others) in
+      let (signs, _) = passed (signTest y method ∷ []) last in
+      sound x y method numbers signs
 
-  -- past 16 and 1 to 7 only sizes are left to ask about
+  -- past 16, 1 to 7 and 29 only sizes are left to ask about
   module _ (place nodes tags slots : ℕ) where
     pub settled : first (numbersTests x y method l r) ≡ verdict.Accepted →
         first (sheetTests x y method l r place nodes tags slots) ≡ first (roomTests (length x) (nodes - place) (tags - place) (slots - slotCount * place))
@@ -61,20 +74,20 @@ module _ (x y : List Float) (method : ConvexMonotone) (l r : End) where
         let s = numbers-sound h in
         settled h ∙ sym (only-room (length x) (length y) (nodes - place) (tags - place) (slots - slotCount * place) (ap not (eq-eqb (length x) (length y) (s .same))) (le-ltb (length x) 2 (s .low)))
 
-    passed : first (sheetTests x y method l r place nodes tags slots) ≡ verdict.Accepted →
+    both-passed : first (sheetTests x y method l r place nodes tags slots) ≡ verdict.Accepted →
         (first (numbersTests x y method l r) ≡ verdict.Accepted) × (first (roomTests (length x) (nodes - place) (tags - place) (slots - slotCount * place)) ≡ verdict.Accepted)
-    passed h = both-accept _ _ (sym (first-append (numbersTests x y method l r) (roomTests (length x) (nodes - place) (tags - place) (slots - slotCount * place))) ∙ h)
+    both-passed h = both-accept _ _ (sym (first-append (numbersTests x y method l r) (roomTests (length x) (nodes - place) (tags - place) (slots - slotCount * place))) ∙ h)
 
     -- an accepted sheet is sound and has room; and one that is sound, has a given node and has room is accepted
     pub sheet-sound : first (sheetTests x y method l r place nodes tags slots) ≡ verdict.Accepted → Sound x y method
-    sheet-sound h = numbers-sound (passed h .0)
+    sheet-sound h = numbers-sound (both-passed h .0)
 
     pub sheet-room : first (sheetTests x y method l r place nodes tags slots) ≡ verdict.Accepted → Room (length x) (nodes - place) (tags - place) (slots - slotCount * place)
-    sheet-room h = room (length x) (nodes - place) (tags - place) (slots - slotCount * place) (passed h .1)
+    sheet-room h = room (length x) (nodes - place) (tags - place) (slots - slotCount * place) (both-passed h .1)
 
     pub sheet-accepts : noneGiven l r ≡ false → Sound x y method → Room (length x) (nodes - place) (tags - place) (slots - slotCount * place) →
         first (sheetTests x y method l r place nodes tags slots) ≡ verdict.Accepted
-    sheet-accepts g s room = settled (rw g (is-sound x y method s)) ∙ has-room (length x) (nodes - place) (tags - place) (slots - slotCount * place) room
+    sheet-accepts g s room = settled (rw (g, first-append (tableTests x y method) (signTest y method ∷ []), is-sound x y method s, s .signs)) ∙ has-room (length x) (nodes - place) (tags - place) (slots - slotCount * place) room
 
 pub too-many : (n nodes tags slots : ℕ) → 4096 < n → first (roomTests n nodes tags slots) ≡ verdict.Refused TooManyPoints
 too-many n nodes tags slots h = rw (lt-ltb 4096 n h)

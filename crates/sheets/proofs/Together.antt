@@ -1,14 +1,14 @@
 -- The sheets of a table are accepted together exactly when the whole is: what is asked of a table's numbers is asked at every place, and every place is in a sheet.
 use Prim.Native.Nat.{ℕ, _+_, _-_, _*_, _≤_, _<_}
 use native.Mathlib.Omega.{arith}
-use mathlib.Core.Bool.{Bool, true, false}
+use mathlib.Core.Bool.{Bool, true, false, not, _&&_}
 use mathlib.Core.List.{List, [], _∷_}
 use mathlib.Core.Logic.{_⊎_, inl, inr}
 use mathlib.Core.Path.{_≡_, refl, sym, ap, _∙_}
-use lib.Ieee.{Float, nan, lt}
+use lib.Ieee.{Float, nan, lt, le}
 use lib.ListN.{length}
 use Rattle.numbers.specs.Sizes.{slotCount}
-use Rattle.numbers.specs.Words.{finite}
+use Rattle.numbers.specs.Words.{zero, finite}
 use Rattle.numbers.proofs.Every.{all-at, all-every, and-split}
 use Rattle.numbers.proofs.Overlay.{length-overlay}
 use Rattle.numbers.proofs.Ways.{never, lt-or-le}
@@ -16,7 +16,8 @@ use Rattle.refusal.specs.declared.Refusal.{Refusal}
 use Rattle.refusal.specs.declared.Verdict.{Verdict}
 use Rattle.refusal.specs.declared.Verdict.the-variants as verdict
 use Rattle.table.specs.Buffers.{Buffers, Outcome, judged}
-use Rattle.table.specs.Check.{allFinite, rising}
+use Rattle.table.specs.Check.{allFinite, rising, fromZero}
+use Rattle.table.specs.Method.{safely}
 use Rattle.table.specs.Sound.{Sound}
 use Rattle.table.specs.Table.{at, nodeAt}
 use Rattle.table.specs.declared.method.ConvexMonotone.{ConvexMonotone}
@@ -162,6 +163,33 @@ module _ (p : Piece) (xs : List Float) (r : p .from < p .to) (i : p .to < length
       let c : at (part p xs) (j - p .from + 1) ≡ at xs (j + 1) = part-at p xs nan (j - p .from + 1) (omega arith) ∙ ap (at xs) f in
       rw (sym d, sym c) (all-at (length (part p xs) - 1) (λ k. lt (at (part p xs) k) (at (part p xs) (k + 1))) h (j - p .from) (omega (arith, n, u, v)))
 
+  pub from-zero-part : fromZero xs ≡ true → fromZero (part p xs) ≡ true
+  unfolding fromZero
+  from-zero-part h =
+      all-every (length (part p xs) - 1) (λ k. le zero (at (part p xs) (k + 1)))
+      (λ k l.
+      let n = part-length p xs i in
+      let e : p .from + (k + 1) ≡ p .from + k + 1 = omega arith in
+      rw (part-at p xs nan (k + 1) (omega (arith, n, l, r)), e) (all-at (length xs - 1) (λ j. le zero (at xs (j + 1))) h (p .from + k) (omega (arith, n, l, r, i))))
+
+  pub from-zero-at : fromZero (part p xs) ≡ true → (j : ℕ) → p .from ≤ j → j < p .to → le zero (at xs (j + 1)) ≡ true
+  unfolding fromZero
+  from-zero-at h j u v =
+      let n = part-length p xs i in
+      let f : p .from + (j - p .from + 1) ≡ j + 1 = omega arith in
+      let c : at (part p xs) (j - p .from + 1) ≡ at xs (j + 1) = part-at p xs nan (j - p .from + 1) (omega arith) ∙ ap (at xs) f in
+      rw (sym c) (all-at (length (part p xs) - 1) (λ k. le zero (at (part p xs) (k + 1))) h (j - p .from) (omega (arith, n, u, v)))
+
+-- what is asked of the averages only in one mode
+if-asked : (a b : Bool) → (a ≡ true → b ≡ true) → a && not b ≡ false
+if-asked true b h = rw (h refl)
+if-asked false b h = refl
+
+was-asked : (a b : Bool) → a && not b ≡ false → a ≡ true → b ≡ true
+was-asked true true h e = refl
+was-asked true false h e = sym h
+was-asked false b h e = never e refl
+
 module _ (x y : List Float) (method : ConvexMonotone) (table : Table x y) where
   pub sound-part : Sound x y method → (p : Piece) → Stands (length x - 1) p → Sound (part p x) (part p y) method
   sound-part s p q =
@@ -179,6 +207,7 @@ module _ (x y : List Float) (method : ConvexMonotone) (table : Table x y) where
         knots = finite-part p x r (omega (arith, i, n)) (s .knots);
         averages = finite-part p y r (omega (arith, i, n, e)) (s .averages);
         rise = rising-part p x r (omega (arith, i, n)) (s .rise);
+        signs = if-asked (safely method) (fromZero (part p y)) (λ asked. from-zero-part p y r (omega (arith, i, n, e)) (was-asked (safely method) (fromZero y) (s .signs) asked));
       }
 
   module _ (ps : List Piece) (all : Covers (length x - 1) ps) where
@@ -196,7 +225,7 @@ module _ (x y : List Float) (method : ConvexMonotone) (table : Table x y) where
             (q .0, q .1, omega (arith, v, u, n), omega (arith, w, l, n))
 
     pub sound-whole : ((p : Piece) → One p ps → Sound (part p x) (part p y) method) → Sound x y method
-    unfolding allFinite rising
+    unfolding allFinite rising fromZero
     sound-whole s =
         let n = table .low in
         let f = all .period 0 (omega (arith, n)) in
@@ -216,6 +245,14 @@ module _ (x y : List Float) (method : ConvexMonotone) (table : Table x y) where
               finite-at (q .0) y (t .rising) (omega (arith, r, n, e)) (s (q .0) (q .1) .averages) i (q .2) (q .3));
           rise = all-every (length x - 1) (λ i. lt (at x i) (at x (i + 1)))
               (λ i l. let q = all .period i l in let t = all .stands (q .0) (q .1) in let r = t .inside in rising-at (q .0) x (t .rising) (omega (arith, r, n)) (s (q .0) (q .1) .rise) i (q .2) (q .3));
+          signs = if-asked (safely method) (fromZero y)
+              (λ asked. all-every (length y - 1) (λ i. le zero (at y (i + 1)))
+              (λ i l.
+              let e = table .same in
+              let q = all .period i (omega (arith, l, e)) in
+              let t = all .stands (q .0) (q .1) in
+              let r = t .inside in
+              from-zero-at (q .0) y (t .rising) (omega (arith, r, n, e)) (was-asked (safely method) (fromZero (part (q .0) y)) (s (q .0) (q .1) .signs) asked) i (q .2) (q .3)));
         }
 
 -- a sheet leaves each buffer as long as it was

@@ -1,7 +1,7 @@
 -- 01, Sheets; Refusal numbers: sheet. What `sheet` answers and leaves in the buffers of the whole.
 use Prim.Native.Nat.{ℕ, _-_, _*_}
 use mathlib.Core.Bool.{Bool, true, false}
-use mathlib.Core.List.{List, _∷_, _++_}
+use mathlib.Core.List.{List, [], _∷_, _++_}
 use lib.Ieee.{Float}
 use lib.ListN.{length}
 use Rattle.numbers.specs.Words.{zero}
@@ -10,7 +10,7 @@ use Rattle.numbers.specs.Sizes.{slotCount}
 use Rattle.refusal.specs.declared.Refusal.the-variants.{NoGivenNode}
 use Rattle.refusal.specs.declared.Verdict.{Verdict}
 use Rattle.table.specs.Buffers.{Buffers, Outcome, judged}
-use Rattle.table.specs.Check.{tableTests, roomTests}
+use Rattle.table.specs.Check.{tableTests, signTest, roomTests}
 use Rattle.table.specs.declared.method.ConvexMonotone.{ConvexMonotone}
 use Rattle.table.specs.declared.ends.End.{End}
 use Rattle.table.specs.declared.ends.End.the-variants as end
@@ -29,9 +29,9 @@ noneGiven end.Free end.Free = true
 noneGiven end.Free (end.Given g) = false
 noneGiven (end.Given g) r = false
 
--- refused in the order 16, 1 to 7, 10, 11: room is what the buffers have from the sheet's place on
+-- refused in the order 16, 1 to 7, 29, 10, 11: room is what the buffers have from the sheet's place on
 abbrev pub numbersTests : List Float → List Float → ConvexMonotone → End → End → List Test
-numbersTests x y method l r = (noneGiven l r ⇒ NoGivenNode) ∷ tableTests x y method
+numbersTests x y method l r = (noneGiven l r ⇒ NoGivenNode) ∷ (tableTests x y method ++ (signTest y method ∷ []))
 
 abbrev pub sheetTests : List Float → List Float → ConvexMonotone → End → End → ℕ → ℕ → ℕ → ℕ → List Test
 sheetTests x y method l r place nodes tags slots = numbersTests x y method l r ++ roomTests (length x) (nodes - place) (tags - place) (slots - slotCount * place)

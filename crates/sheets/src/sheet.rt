@@ -5,6 +5,7 @@ use assembly::sections::Tail;
 use numbers::SLOTS;
 use refusal::Refusal;
 use refusal::Verdict;
+use table::check::average_below;
 use table::check::room_verdict;
 use table::check::table_verdict;
 use table::ends::End;
@@ -87,14 +88,23 @@ fn none_given(left: End, right: End) -> bool
     }
 }
 
-// Refusals 16 and 1 to 7.
+// Refusals 16, 1 to 7 and 29.
 fn numbers_verdict(xs: &[f64], ys: &[f64], method: ConvexMonotone, left: End, right: End) -> Verdict
     ensures { λ r. ⌜ r ≡ first (numbersTests (now (xs .entry)) (now (ys .entry)) method left right) ⌝ }
 {
     if none_given(left, right) {
         return Verdict::Refused(Refusal::NoGivenNode);
     }
-    table_verdict(xs, ys, method)
+    let verdict = table_verdict(xs, ys, method);
+    match verdict {
+        Verdict::Refused(_) => verdict,
+        Verdict::Accepted => {
+            if average_below(ys, method) {
+                return Verdict::Refused(Refusal::AverageBelowZero);
+            }
+            Verdict::Accepted
+        }
+    }
 }
 
 // What is left of a buffer from a place on.
