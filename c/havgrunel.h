@@ -45,12 +45,19 @@ enum havgrunel_refusal {
     HAVGRUNEL_DERIVATIVE_ASKED = 14,    /* the method has no derivative */
     HAVGRUNEL_RECORD_NOT_LEGAL = 15,    /* a record's tag is not legal, or the record is not there */
     HAVGRUNEL_NO_GIVEN_NODE = 16,       /* a sheet needs a given node at one end at least, and this one has none */
-    HAVGRUNEL_CUTS_NOT_INNER = 28       /* a cut is not an inner knot of the table, or not above the cut before it */
+    HAVGRUNEL_CUTS_NOT_INNER = 28,      /* a cut is not an inner knot of the table, or not above the cut before it */
+    HAVGRUNEL_AVERAGE_BELOW_ZERO = 29,  /* an average is below 0, and no curve at or above 0 can keep it, as the safe split promises */
+    HAVGRUNEL_SPLIT_UNKNOWN = 30        /* the split's number is none of 0, 1 and 2 */
 };
 
 /* A curve of n points takes n nodes, n - 1 tags and HAVGRUNEL_SLOTS slots for each tag. */
 #define HAVGRUNEL_MOST_POINTS 4096
 #define HAVGRUNEL_SLOTS 24
+
+/* The splits by their numbers, as every call that builds takes them. What each does is said at havgrunel_build. */
+#define HAVGRUNEL_SPLIT_ORIGINAL 0
+#define HAVGRUNEL_SPLIT_CAREFUL 1
+#define HAVGRUNEL_SPLIT_SAFE 2
 
 /* The square root, correctly rounded. A zero, +infinity and a NaN are their own roots; below zero there is none, and a NaN comes back. */
 double havgrunel_sqrt(double a);
@@ -65,22 +72,37 @@ bool havgrunel_default_positivity(void);
  * checked for finiteness and otherwise not read.
  *
  * `quadraticity` is the share of a parabola in a section, `monotonicity` how monotone the rest is, and `positive` asks for prices that are not below
- * zero. With it a section's parabola may be split into two arms with zero between them, and `careful` says when. Where it is false, the original's rule
- * does, that of havgrunel_quadratic_min, and everything is as it was before there was this argument. Where it is true, that rule splits only where the
- * ratio is above 0 and at most 1, so that a split section never is stretched beyond its period: this is the rule of havgrunel_quadratic_min_careful.
- * `careful` changes no node, no total that a section starts from and no refusal; without `positive` it changes nothing. It means the same in every call
- * that has it.
+ * zero. With it a section may be split into two arms with zero between them, and `split` says by which rule. Without it all three splits are one. The
+ * number means the same in every call that has it:
+ *
+ * HAVGRUNEL_SPLIT_ORIGINAL, 0: the original's rule, that of havgrunel_quadratic_min. A period can lose its average by it, and rounding can leave a period
+ * below zero or, where it traded at 0, without a price.
+ *
+ * HAVGRUNEL_SPLIT_CAREFUL, 1: a parabola is split where that rule splits it and the ratio is above 0 and at most 1, so that a split section never is
+ * stretched beyond its period: the rule of havgrunel_quadratic_min_careful. It changes no node, no total that a section starts from and no refusal.
+ *
+ * HAVGRUNEL_SPLIT_SAFE, 2: parabolas by the rule of havgrunel_quadratic_min_safe, convex monotone pieces by that of havgrunel_convex_monotone4_min_safe.
+ * A period that traded at 0, of either sign, is +0.0 everywhere, unless it is a held last one, which is as it ever was. A table with an average below 0 is
+ * refused by 29; the first average, which is not read, may be. Nodes, totals that a section starts from, and all other sections are the original's.
+ *
+ * The safe split is for curves of which no price is below 0 and no average is lost. Proved: no node is below 0, if none is given that is; and for a
+ * monotonicity of at most 1 - 2^-20, averages up to 1e45 and periods from 1e-120 to 1e120 long every price between the knots is finite, where there is no
+ * seam and no given node. How far rounding may still take a curve was tried on three million drawn strips at quadraticity 0, 0.3 and 1 with a monotonicity
+ * of at most 0.99 and a largest average of 0.001 or more: no price was below 0 by more than 1e-12 of the largest average, no average was lost by more than
+ * 1e-11 of it beyond the rounding of the running total, and every price was finite. Beyond these bounds, where the largest average is below 0.001, up to
+ * 1e-14 is lost of an average, whatever its size. Above a monotonicity of 0.99 every split loses averages by cancellation, 5e-8 of them at 0.9999, and at
+ * exactly 1 there may be no price at a left knot.
  *
  * `hold` asks for a constant last period. With `seamed`, the node at `seam_count` is `seam_node`; without it the two are not read. Written are
  * the nodes, the tags and slots of the sections, the count of sections into sections[0], and into tail[0], tail[1], tail[2] the curve's tail, the three
  * numbers that answer from the last knot on: its value, the total where it starts, and where it starts.
  *
- * Refused in the order 1 to 8, 10, 11; a `sections` or `tail` that is too short is an 11 as well.
+ * Refused in the order 30, 1 to 8, 29, 10, 11; a `sections` or `tail` that is too short is an 11 as well.
  */
 uint8_t havgrunel_build(
     const double *knots, size_t knots_count,
     const double *averages, size_t averages_count,
-    double quadraticity, double monotonicity, bool positive, bool careful,
+    double quadraticity, double monotonicity, bool positive, uint8_t split,
     bool hold,
     bool seamed, size_t seam_count, double seam_node,
     double *nodes, size_t nodes_count,
@@ -95,14 +117,15 @@ uint8_t havgrunel_build(
  * While there are localisation + 1 points the table stands alone. After that it goes on from the previous curve: `grown` says that there is one,
  * `previous_sections` is its count of sections, `previous_held` whether its last period was held (`hold` of the build, or for a grown curve whether
  * its points were not `final_size`), and its tags and slots are lent as they were written. The new curve goes into other buffers, as for
- * havgrunel_build. The previous curve may be one of either mode: nothing is taken over from it that `careful` changes.
+ * havgrunel_build. The previous curve may be one of any split. Of it only the node is taken over that its last section that was not held ends on, and
+ * the safe split can change that one: a section that it makes flat ends on its average.
  *
- * Past the first window refused by 9, then 15 for the previous curve; then in the order of a build.
+ * Refused by 30, and past the first window by 9, then 15 for the previous curve; then in the order of a build.
  */
 uint8_t havgrunel_grow(
     const double *knots, size_t knots_count,
     const double *averages, size_t averages_count,
-    double quadraticity, double monotonicity, bool positive, bool careful,
+    double quadraticity, double monotonicity, bool positive, uint8_t split,
     size_t localisation, size_t final_size,
     bool grown, size_t previous_sections, bool previous_held,
     const uint16_t *previous_tags, size_t previous_tags_count,
@@ -130,15 +153,15 @@ double havgrunel_inner_node(double before, double here, double after, double ave
  * from), or three +0.0 where a right node is given.
  *
  * Sheets that are given the whole's nodes and totals leave the buffers that a build of the whole leaves, in whatever order they are built, if all have
- * the settings of the whole, `careful` among them. A build's total before knot i is a sum from the left, from +0.0 on, of each average times the length
+ * the settings of the whole, `split` among them. A build's total before knot i is a sum from the left, from +0.0 on, of each average times the length
  * of its period.
  *
- * Refused in the order 16, 1 to 7, 10, 11; an `answer` of fewer than 4 entries is an 11 as well.
+ * Refused in the order 30, 16, 1 to 7, 29, 10, 11; an `answer` of fewer than 4 entries is an 11 as well.
  */
 uint8_t havgrunel_sheet(
     const double *knots, size_t knots_count,
     const double *averages, size_t averages_count,
-    double quadraticity, double monotonicity, bool positive, bool careful,
+    double quadraticity, double monotonicity, bool positive, uint8_t split,
     bool left_given, double left_node,
     bool right_given, double right_node,
     double start, size_t place,
@@ -151,12 +174,12 @@ uint8_t havgrunel_sheet(
  * Builds the curve of a whole table in sheets that end at the cuts, which are numbers of inner knots, counted from 0, each above the one before. With
  * no cut there is one sheet, the whole. What is answered and written is what havgrunel_build answers and writes with `hold` and `seamed` off.
  *
- * Refused by 28, then in the order of a build.
+ * Refused by 30, then by 28, then in the order of a build.
  */
 uint8_t havgrunel_build_in_sheets(
     const double *knots, size_t knots_count,
     const double *averages, size_t averages_count,
-    double quadraticity, double monotonicity, bool positive, bool careful,
+    double quadraticity, double monotonicity, bool positive, uint8_t split,
     const size_t *cuts, size_t cuts_count,
     double *nodes, size_t nodes_count,
     uint16_t *tags, size_t tags_count,
@@ -273,6 +296,12 @@ uint8_t havgrunel_convex_monotone4_min(
     uint16_t *tag, size_t tag_count,
     double *slots, size_t slots_count);
 
+/* The same, but where its two arms would be squeezed to 1e-12 of the period or less, it is flat at its average instead, and not split. */
+uint8_t havgrunel_convex_monotone4_min_safe(
+    double x_prev, double x_next, double g_prev, double g_next, double f_average, double eta4, double prev_primitive,
+    uint16_t *tag, size_t tag_count,
+    double *slots, size_t slots_count);
+
 uint8_t havgrunel_quadratic(
     double x_prev, double x_next, double f_prev, double f_next, double f_average, double prev_primitive,
     uint16_t *tag, size_t tag_count,
@@ -287,6 +316,11 @@ uint8_t havgrunel_quadratic(
  * signs. Where the ratio is above 1, the arms are longer than the period, and the section no longer holds its average. havgrunel_quadratic_min_careful
  * splits where that rule does and the ratio is above 0 and at most 1, so that a split section never is stretched beyond its period. A ratio that is
  * infinite or not a number does not split. Where both split, and where neither does, the record is the same.
+ *
+ * havgrunel_quadratic_min_safe works av_root out as the formula above has it, where the other two work it out of larger numbers, which rounding decides
+ * where an end is 0. It splits where the parabola has two zeros, neither end is below 0, and the ratio is above 1e-12 and at most 1. Where all but the
+ * ratio holds and that is 1e-12 or less, the section is flat at its average, and ends on it. Elsewhere it stays whole. Where it splits as the other two
+ * do, the record can differ from theirs by the rounding of av_root.
  */
 uint8_t havgrunel_quadratic_min(
     double x_prev, double x_next, double f_prev, double f_next, double f_average, double prev_primitive,
@@ -294,6 +328,11 @@ uint8_t havgrunel_quadratic_min(
     double *slots, size_t slots_count);
 
 uint8_t havgrunel_quadratic_min_careful(
+    double x_prev, double x_next, double f_prev, double f_next, double f_average, double prev_primitive,
+    uint16_t *tag, size_t tag_count,
+    double *slots, size_t slots_count);
+
+uint8_t havgrunel_quadratic_min_safe(
     double x_prev, double x_next, double f_prev, double f_next, double f_average, double prev_primitive,
     uint16_t *tag, size_t tag_count,
     double *slots, size_t slots_count);

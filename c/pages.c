@@ -68,11 +68,21 @@ static void make_table(void)
     knots = pages;
 }
 
-static uint8_t build(void)
+static uint8_t build_by(uint8_t split)
 {
     size_t sections[1];
     double tail[3];
-    return havgrunel_build(knots, points, averages, points, 0.3, 0.7, true, false, false, false, 0, 0.0, NULL, 0, NULL, 0, NULL, 0, sections, 1, tail, 3);
+    return havgrunel_build(knots, points, averages, points, 0.3, 0.7, true, split, false, false, 0, 0.0, NULL, 0, NULL, 0, NULL, 0, sections, 1, tail, 3);
+}
+
+static uint8_t build(void)
+{
+    return build_by(HAVGRUNEL_SPLIT_ORIGINAL);
+}
+
+static uint8_t build_safely(void)
+{
+    return build_by(HAVGRUNEL_SPLIT_SAFE);
 }
 
 static uint8_t value(void)
@@ -110,6 +120,7 @@ static void try_call(const char *name, uint8_t (*call)(void), const char *told, 
 static void try_calls(const char *told, uint8_t of_build, uint8_t of_query)
 {
     try_call("a build", build, told, of_build);
+    try_call("a safe build", build_safely, told, of_build);
     try_call("a price", value, told, of_query);
     try_call("totals", primitives, told, of_query);
 }

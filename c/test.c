@@ -76,13 +76,13 @@ struct table {
     double quadraticity;
     double monotonicity;
     bool positive;
-    bool careful;
+    uint8_t split;
 };
 
 static uint8_t build_in(const struct table *t, bool hold, bool seamed, size_t count, double node, size_t nodes, size_t tags, size_t slots,
     size_t sections, size_t tail, struct curve *c)
 {
-    return havgrunel_build(t->knots, t->knots_count, t->averages, t->averages_count, t->quadraticity, t->monotonicity, t->positive, t->careful, hold,
+    return havgrunel_build(t->knots, t->knots_count, t->averages, t->averages_count, t->quadraticity, t->monotonicity, t->positive, t->split, hold,
         seamed, count, node, c->nodes, nodes, c->tags, tags, c->slots, slots, c->sections, sections, c->tail, tail);
 }
 
@@ -131,7 +131,7 @@ static void two_points(void)
 {
     const double knots[] = {0.0, 2.0};
     const double averages[] = {9.0, 2.0};
-    const struct table t = {knots, 2, averages, 2, 0.0, 0.0, false, false};
+    const struct table t = {knots, 2, averages, 2, 0.0, 0.0, false, HAVGRUNEL_SPLIT_ORIGINAL};
     struct curve c;
     CHECK(build(&t, false, &c) == 0);
     CHECK(c.sections[0] == 1);
@@ -145,7 +145,7 @@ static void two_points(void)
 
 static const double three_knots[] = {0.0, 1.0, 2.0};
 static const double three_averages[] = {0.0, 1.0, 3.0};
-static const struct table three = {three_knots, 3, three_averages, 3, 0.0, 1.0, false, false};
+static const struct table three = {three_knots, 3, three_averages, 3, 0.0, 1.0, false, HAVGRUNEL_SPLIT_ORIGINAL};
 
 static void three_points(void)
 {
@@ -257,7 +257,7 @@ static void refused_tables(void)
     }
     for (size_t i = 0; i < many; i++)
         days[i] = (double)i;
-    t = (struct table){days, many, days, many, 0.3, 0.7, true, false};
+    t = (struct table){days, many, days, many, 0.3, 0.7, true, HAVGRUNEL_SPLIT_ORIGINAL};
     CHECK(build(&t, false, &c) == HAVGRUNEL_TOO_MANY_POINTS && untouched(&c));
     free(days);
 }
@@ -389,6 +389,28 @@ static void kinds(void)
     CHECK(havgrunel_quadratic_min_careful(0.0, 1.0, 4.0, 1.0, 0.0, 0.0, &tag, 1, s, 24) == 0 && tag == 0x4000 && same(s[12], 1.0));
     CHECK(havgrunel_quadratic_min_careful(0.0, 1.0, 4.0, 1.0, 3.0, 0.0, &tag, 1, s, 23) == HAVGRUNEL_BUFFER_TOO_SHORT && tag == 0x4000);
 
+    /* by the safe rule: the same at 0.5 and at 3; flat at its average where the ratio is next to nothing; and an end at 0 is no matter of rounding */
+    CHECK(havgrunel_quadratic_min(0.0, 1.0, 4.0, 1.0, 0.5, 0.0, &min_tag, 1, min, 24) == 0);
+    CHECK(havgrunel_quadratic_min_safe(0.0, 1.0, 4.0, 1.0, 0.5, 0.0, &tag, 1, s, 24) == 0 && tag == min_tag && memcmp(s, min, sizeof s) == 0);
+    CHECK(havgrunel_quadratic_min_careful(0.0, 1.0, 4.0, 1.0, 3.0, 0.0, &min_tag, 1, min, 24) == 0);
+    CHECK(havgrunel_quadratic_min_safe(0.0, 1.0, 4.0, 1.0, 3.0, 0.0, &tag, 1, s, 24) == 0 && tag == min_tag && memcmp(s, min, sizeof s) == 0);
+    CHECK(havgrunel_quadratic_min_safe(0.0, 1.0, 4.0, 1.0, 1e-12, 0.0, &tag, 1, s, 24) == 0 && tag == 0x4000);
+    CHECK(section_is(tag, s, 0.0, 1e-12, 0.0, 1e-12) && section_is(tag, s, 1.0, 1e-12, 1e-12, 1e-12));
+    CHECK(havgrunel_quadratic_min_safe(0.0, 1.0, 4.0, 1.0, 2e-12, 0.0, &tag, 1, s, 24) == 0 && tag == 0x5000 && same(value_of(tag, s, 0.5), 0.0));
+    CHECK(havgrunel_quadratic_min_safe(0.0, 1.0, 4.0, 1.0, -1.0, 0.0, &tag, 1, s, 24) == 0 && tag == 0x4000 && section_is(tag, s, 0.0, -1.0, 0.0, -1.0));
+    CHECK(havgrunel_quadratic_min_safe(0.0, 1.0, 4.0, -1.0, 0.5, 0.0, &tag, 1, s, 24) == 0 && tag == 0x4000 && same(value_of(tag, s, 0.0), 4.0));
+    CHECK(havgrunel_quadratic_min_safe(0.0, 1.0, 4.0, 1.0, 0.5, 0.0, &tag, 1, s, 23) == HAVGRUNEL_BUFFER_TOO_SHORT && tag == 0x4000);
+    const double beside = 29.825;
+    CHECK(havgrunel_quadratic_min_careful(0.0, 28.0, 0.0, beside, 0.62, 0.0, &tag, 1, s, 24) == 0 && tag == 0x4000 && value_of(tag, s, 9.0) < -9.0);
+    CHECK(havgrunel_quadratic_min_safe(0.0, 28.0, 0.0, beside, 0.62, 0.0, &tag, 1, s, 24) == 0 && tag == 0x5000 && same(value_of(tag, s, 9.0), 0.0));
+
+    CHECK(havgrunel_convex_monotone4_min(0.0, 1.0, 1.0, 1.0, 0.25, 0.5, 0.0, &min_tag, 1, min, 24) == 0);
+    CHECK(havgrunel_convex_monotone4_min_safe(0.0, 1.0, 1.0, 1.0, 0.25, 0.5, 0.0, &tag, 1, s, 24) == 0 && tag == min_tag && memcmp(s, min, sizeof s) == 0);
+    CHECK(havgrunel_convex_monotone4_min(0.0, 1.0, 1.0, 1.0, 0.0, 0.5, 0.0, &tag, 1, s, 24) == 0 && tag == 0x0680 && isnan(value_of(tag, s, 0.0)));
+    CHECK(havgrunel_convex_monotone4_min_safe(0.0, 1.0, 1.0, 1.0, 0.0, 0.5, 0.0, &tag, 1, s, 24) == 0 && tag == 0x0600);
+    CHECK(section_is(tag, s, 0.0, 0.0, 0.0, 0.0) && section_is(tag, s, 1.0, 0.0, 0.0, 0.0));
+    CHECK(havgrunel_convex_monotone4_min_safe(0.0, 1.0, 1.0, 1.0, 0.0, 0.5, 0.0, NULL, 0, s, 24) == HAVGRUNEL_BUFFER_TOO_SHORT);
+
     /* a combination from two records: a quarter of the one and the rest of the other */
     uint16_t other_tag = 0;
     double other[HAVGRUNEL_SLOTS];
@@ -413,7 +435,7 @@ static uint8_t grow(const struct table *t, size_t localisation, size_t final_siz
     struct curve *c)
 {
     fill(c);
-    return havgrunel_grow(t->knots, t->knots_count, t->averages, t->averages_count, t->quadraticity, t->monotonicity, t->positive, t->careful,
+    return havgrunel_grow(t->knots, t->knots_count, t->averages, t->averages_count, t->quadraticity, t->monotonicity, t->positive, t->split,
         localisation, final_size, grown, sections, held, from->tags, TAGS, from->slots, SLOTS, c->nodes, NODES, c->tags, TAGS, c->slots, SLOTS,
         c->sections, 2, c->tail, 4);
 }
@@ -422,7 +444,7 @@ static void growth(void)
 {
     const double knots[] = {0.0, 1.0, 2.5, 3.0, 5.0};
     const double averages[] = {0.0, 1.0, 3.0, 2.0, 2.5};
-    struct table t = {knots, 3, averages, 3, havgrunel_default_quadraticity(), havgrunel_default_monotonicity(), havgrunel_default_positivity(), false};
+    struct table t = {knots, 3, averages, 3, havgrunel_default_quadraticity(), havgrunel_default_monotonicity(), havgrunel_default_positivity(), 0};
     struct curve first;
     struct curve second;
     struct curve whole;
@@ -466,11 +488,11 @@ static void growth(void)
     /* answers without room come last */
     t.averages_count = 4;
     fill(&first);
-    CHECK(havgrunel_grow(knots, 4, averages, 4, 0.3, 0.7, true, false, 2, 5, true, 1, false, second.tags, TAGS, second.slots, SLOTS, first.nodes, NODES,
-              first.tags, TAGS, first.slots, SLOTS, first.sections, 0, first.tail, 4)
+    CHECK(havgrunel_grow(knots, 4, averages, 4, 0.3, 0.7, true, HAVGRUNEL_SPLIT_ORIGINAL, 2, 5, true, 1, false, second.tags, TAGS, second.slots, SLOTS,
+              first.nodes, NODES, first.tags, TAGS, first.slots, SLOTS, first.sections, 0, first.tail, 4)
         == HAVGRUNEL_BUFFER_TOO_SHORT);
-    CHECK(havgrunel_grow(knots, 4, averages, 4, 0.3, 0.7, true, true, 2, 5, false, 1, false, second.tags, TAGS, second.slots, SLOTS, first.nodes, NODES,
-              first.tags, TAGS, first.slots, SLOTS, first.sections, 1, first.tail, 2)
+    CHECK(havgrunel_grow(knots, 4, averages, 4, 0.3, 0.7, true, HAVGRUNEL_SPLIT_CAREFUL, 2, 5, false, 1, false, second.tags, TAGS, second.slots, SLOTS,
+              first.nodes, NODES, first.tags, TAGS, first.slots, SLOTS, first.sections, 1, first.tail, 2)
         == HAVGRUNEL_NO_PREVIOUS_CURVE);
     CHECK(untouched(&first));
 }
@@ -488,7 +510,7 @@ struct handed {
 static uint8_t sheet_in(const struct table *t, size_t from, size_t points, struct handed h, size_t nodes, size_t tags, size_t slots, size_t entries,
     struct curve *c, double *answer)
 {
-    return havgrunel_sheet(t->knots + from, points, t->averages + from, points, t->quadraticity, t->monotonicity, t->positive, t->careful,
+    return havgrunel_sheet(t->knots + from, points, t->averages + from, points, t->quadraticity, t->monotonicity, t->positive, t->split,
         h.left_given, h.left, h.right_given, h.right, h.start, h.place, c->nodes, nodes, c->tags, tags, c->slots, slots, answer, entries);
 }
 
@@ -500,7 +522,7 @@ static uint8_t sheet(const struct table *t, size_t from, size_t points, struct h
 static uint8_t build_cut(const struct table *t, const size_t *cuts, size_t count, size_t sections, size_t tail, struct curve *c)
 {
     fill(c);
-    return havgrunel_build_in_sheets(t->knots, t->knots_count, t->averages, t->averages_count, t->quadraticity, t->monotonicity, t->positive, t->careful,
+    return havgrunel_build_in_sheets(t->knots, t->knots_count, t->averages, t->averages_count, t->quadraticity, t->monotonicity, t->positive, t->split,
         cuts, count, c->nodes, NODES, c->tags, TAGS, c->slots, SLOTS, c->sections, sections, c->tail, tail);
 }
 
@@ -596,12 +618,12 @@ static void falling_months(void)
 {
     const double knots[] = {0.0, 1.0, 2.0, 3.0};
     const double averages[] = {0.0, 5.0, 3.0, 1.0};
-    struct table t = {knots, 4, averages, 4, 0.0, 0.7, true, false};
+    struct table t = {knots, 4, averages, 4, 0.0, 0.7, true, HAVGRUNEL_SPLIT_ORIGINAL};
     struct curve original;
     struct curve careful;
     struct curve c;
     CHECK(build(&t, false, &original) == 0 && rest_untouched(&original, 4));
-    t.careful = true;
+    t.split = HAVGRUNEL_SPLIT_CAREFUL;
     CHECK(build(&t, false, &careful) == 0 && rest_untouched(&careful, 4));
     CHECK(original.tags[0] == 0x5000 && original.tags[1] == 0x5000 && original.tags[2] == 0x4000);
     CHECK(careful.tags[0] == 0x4000 && careful.tags[1] == 0x4000 && careful.tags[2] == 0x4000);
@@ -616,9 +638,10 @@ static void falling_months(void)
     /* without positivity it says nothing */
     t.positive = false;
     CHECK(build(&t, false, &original) == 0);
-    t.careful = false;
+    t.split = HAVGRUNEL_SPLIT_ORIGINAL;
     CHECK(build(&t, false, &c) == 0 && memcmp(&c, &original, sizeof c) == 0);
-    t.positive = t.careful = true;
+    t.positive = true;
+    t.split = HAVGRUNEL_SPLIT_CAREFUL;
 
     /* sheets of the careful mode are its whole, at once and one by one */
     const size_t cuts[] = {1, 2};
@@ -634,12 +657,136 @@ static void falling_months(void)
     struct curve first;
     t.knots_count = t.averages_count = 3;
     for (int mode = 0; mode < 2; mode++) {
-        t.careful = mode == 1;
+        t.split = (uint8_t)mode;
         CHECK(grow(&t, 2, 4, false, 0, false, &c, &first) == 0 && first.tags[0] == (mode == 1 ? 0x4000 : 0x5000));
         t.knots_count = t.averages_count = 4;
-        t.careful = true;
+        t.split = HAVGRUNEL_SPLIT_CAREFUL;
         CHECK(grow(&t, 2, 4, true, first.sections[0], true, &first, &c) == 0 && memcmp(&c, &careful, sizeof c) == 0);
         t.knots_count = t.averages_count = 3;
+    }
+}
+
+/* The lowest price of a curve at whole numbers from its first knot up to its last. */
+static double lowest(const struct table *t, const struct curve *c)
+{
+    double found = INFINITY;
+    for (double x = t->knots[0]; x <= t->knots[t->knots_count - 1]; x += 1.0) {
+        double v = NAN;
+        CHECK(ask(havgrunel_value, t, c, false, x, &v) == 0 && !isnan(v));
+        found = v < found ? v : found;
+    }
+    return found;
+}
+
+/* A cheap first month falls below 0 in the first two modes, and in the safe one it does not and keeps its average. */
+static void cheap_first_month(void)
+{
+    const double knots[] = {0.0, 28.0, 56.0, 85.0};
+    const double averages[] = {0.0, 0.62, 59.03, 47.69};
+    struct table t = {knots, 4, averages, 4, 0.3, 0.7, true, HAVGRUNEL_SPLIT_ORIGINAL};
+    struct curve original;
+    struct curve safe;
+    struct curve c;
+    CHECK(build(&t, false, &original) == 0 && lowest(&t, &original) < -2.7);
+    t.split = HAVGRUNEL_SPLIT_CAREFUL;
+    CHECK(build(&t, false, &c) == 0 && memcmp(&c, &original, sizeof c) == 0);
+    t.split = HAVGRUNEL_SPLIT_SAFE;
+    CHECK(build(&t, false, &safe) == 0 && rest_untouched(&safe, 4) && same(lowest(&t, &safe), 0.0));
+    CHECK(memcmp(safe.nodes, original.nodes, sizeof safe.nodes) == 0 && memcmp(safe.tail, original.tail, sizeof safe.tail) == 0);
+    for (size_t i = 0; i < 3; i++) {
+        double a[3];
+        double b[3];
+        CHECK(havgrunel_section(safe.tags[i], safe.slots + HAVGRUNEL_SLOTS * i, HAVGRUNEL_SLOTS, knots[i], a, 3) == 0);
+        CHECK(havgrunel_section(safe.tags[i], safe.slots + HAVGRUNEL_SLOTS * i, HAVGRUNEL_SLOTS, knots[i + 1], b, 3) == 0);
+        CHECK(fabs((b[1] - a[1]) / (knots[i + 1] - knots[i]) - averages[i + 1]) < 1e-11 * 59.03);
+    }
+
+    /* without positivity it says nothing, and sheets make its whole */
+    const size_t cuts[] = {1, 2};
+    CHECK(build_cut(&t, cuts, 2, 2, 4, &c) == 0 && memcmp(&c, &safe, sizeof c) == 0);
+    t.positive = false;
+    CHECK(build(&t, false, &safe) == 0);
+    t.split = HAVGRUNEL_SPLIT_ORIGINAL;
+    CHECK(build(&t, false, &c) == 0 && memcmp(&c, &safe, sizeof c) == 0);
+}
+
+/* A period that traded at 0 in the middle, and one at either end. */
+static void zero_periods(void)
+{
+    const double knots[] = {0.0, 1.0, 2.0, 3.0, 4.0, 5.0};
+    double averages[] = {-7.0, 0.0, 2.0, -0.0, 2.0, 0.0};
+    struct table t = {knots, 6, averages, 6, 0.3, 0.7, true, HAVGRUNEL_SPLIT_ORIGINAL};
+    struct curve c;
+    double v = -1.0;
+    CHECK(build(&t, false, &c) == 0 && ask(havgrunel_value, &t, &c, false, 2.0, &v) == 0 && isnan(v));
+    t.split = HAVGRUNEL_SPLIT_SAFE;
+    for (int k = 0; k < 3; k++) {
+        t.quadraticity = k == 0 ? 0.0 : k == 1 ? 0.3 : 1.0;
+        CHECK(build(&t, false, &c) == 0 && rest_untouched(&c, 6));
+        CHECK(c.tags[0] == 0x0100 && c.tags[2] == 0x0100 && c.tags[4] == 0x0100 && c.tags[1] != 0x0100);
+        for (double x = 0.0; x < 1.0; x += 0.125)
+            CHECK(answers(&t, &c, false, x, 0.0, 0.0) && answers(&t, &c, false, 2.0 + x, 0.0, 2.0) && answers(&t, &c, false, 4.0 + x, 0.0, 4.0));
+        CHECK(answers(&t, &c, false, 5.0, c.tail[0], 4.0) && fabs(held(&c, 1) - 2.0) < 1e-12 && fabs(held(&c, 3) - 2.0) < 1e-12);
+    }
+    /* a held last period is what it is in every mode */
+    CHECK(build(&t, true, &c) == 0 && c.tags[4] == 0x0100 && same(c.tail[0], 0.0) && same(c.tail[2], 4.0));
+
+    /* an average below 0 is refused behind all faults of the table but for too many points and short buffers; the first one is not read */
+    averages[4] = -0x1p-1074;
+    CHECK(build(&t, false, &c) == HAVGRUNEL_AVERAGE_BELOW_ZERO && untouched(&c));
+    fill(&c);
+    CHECK(build_in(&t, false, true, 5, 1.0, NODES, TAGS, SLOTS, 2, 4, &c) == HAVGRUNEL_SEAM_TOO_LONG && untouched(&c));
+    CHECK(build_in(&t, false, false, 0, 0.0, 0, 0, 0, 0, 0, &c) == HAVGRUNEL_AVERAGE_BELOW_ZERO && untouched(&c));
+    CHECK(grow(&t, 5, 6, false, 0, false, &c, &c) == HAVGRUNEL_AVERAGE_BELOW_ZERO);
+    CHECK(grow(&t, 2, 6, false, 0, false, &c, &c) == HAVGRUNEL_NO_PREVIOUS_CURVE);
+    const size_t cuts[] = {2, 5};
+    CHECK(build_cut(&t, cuts, 1, 2, 4, &c) == HAVGRUNEL_AVERAGE_BELOW_ZERO && untouched(&c));
+    CHECK(build_cut(&t, cuts, 2, 2, 4, &c) == HAVGRUNEL_CUTS_NOT_INNER && untouched(&c));
+    /* a sheet reads its own averages, but for its first */
+    double answer[5] = {-1.0, -1.0, -1.0, -1.0, -1.0};
+    const struct handed both = {true, 1.0, true, 1.0, 0.0, 0};
+    fill(&c);
+    CHECK(sheet(&t, 3, 2, both, &c, answer) == HAVGRUNEL_AVERAGE_BELOW_ZERO);
+    CHECK(sheet_in(&t, 3, 2, both, 0, 0, 0, 0, &c, answer) == HAVGRUNEL_AVERAGE_BELOW_ZERO);
+    CHECK(untouched(&c) && answer_is(answer, -1.0, -1.0, -1.0, -1.0));
+    CHECK(sheet(&t, 4, 2, both, &c, answer) == 0 && c.tags[0] == 0x0100);
+    t.split = HAVGRUNEL_SPLIT_CAREFUL;
+    CHECK(build(&t, false, &c) == 0);
+    t.split = HAVGRUNEL_SPLIT_ORIGINAL;
+    CHECK(build(&t, false, &c) == 0);
+    t.split = HAVGRUNEL_SPLIT_SAFE;
+    t.positive = false;
+    CHECK(build(&t, false, &c) == 0);
+}
+
+/* A split that there is not is refused before everything else, and nothing is written. */
+static void unknown_splits(void)
+{
+    struct curve c;
+    struct curve from;
+    double answer[5] = {-1.0, -1.0, -1.0, -1.0, -1.0};
+    const struct handed none = {false, NAN, false, NAN, 0.0, 0};
+    const struct handed right = {true, 2.0, false, NAN, 1.0, 1};
+    const size_t outer[] = {0};
+    const uint8_t unknown[] = {3, 255};
+    fill(&from);
+    for (size_t k = 0; k < 2; k++) {
+        struct table t = three;
+        t.split = unknown[k];
+        for (int faults = 0; faults < 2; faults++) {
+            CHECK(build(&t, false, &c) == HAVGRUNEL_SPLIT_UNKNOWN && untouched(&c));
+            CHECK(build_in(&t, false, true, 9, 0.0, 0, 0, 0, 0, 0, &c) == HAVGRUNEL_SPLIT_UNKNOWN && untouched(&c));
+            CHECK(grow(&t, 2, 5, false, 0, false, &from, &c) == HAVGRUNEL_SPLIT_UNKNOWN && untouched(&c));
+            CHECK(grow(&t, 1, 5, false, 0, false, &from, &c) == HAVGRUNEL_SPLIT_UNKNOWN && untouched(&c));
+            CHECK(build_cut(&t, NULL, 0, 2, 4, &c) == HAVGRUNEL_SPLIT_UNKNOWN && untouched(&c));
+            CHECK(build_cut(&t, outer, 1, 0, 0, &c) == HAVGRUNEL_SPLIT_UNKNOWN && untouched(&c));
+            CHECK(sheet(&t, 1, 2, right, &c, answer) == HAVGRUNEL_SPLIT_UNKNOWN);
+            CHECK(sheet_in(&t, 1, 2, none, 0, 0, 0, 0, &c, answer) == HAVGRUNEL_SPLIT_UNKNOWN);
+            CHECK(untouched(&c) && answer_is(answer, -1.0, -1.0, -1.0, -1.0));
+            /* the second time, of a table that has faults of its own */
+            t.averages_count = 2;
+            t.monotonicity = NAN;
+        }
     }
 }
 
@@ -673,6 +820,9 @@ int main(void)
     growth();
     sheets();
     falling_months();
+    cheap_first_month();
+    zero_periods();
+    unknown_splits();
     if (failures != 0) {
         fprintf(stderr, "c: %d of %d checks don't hold\n", failures, checks);
         return 1;

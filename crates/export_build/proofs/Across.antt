@@ -10,7 +10,7 @@ use lib.ListN.{length, set}
 use Rattle.numbers.proofs.Ways.{or-none}
 use Rattle.refusal.specs.Refusal.{number}
 use Rattle.refusal.specs.declared.Refusal.{Refusal}
-use Rattle.refusal.specs.declared.Refusal.the-variants.{CutsNotInner}
+use Rattle.refusal.specs.declared.Refusal.the-variants.{CutsNotInner, SplitUnknown}
 use Rattle.refusal.specs.declared.Verdict.{Verdict}
 use Rattle.refusal.specs.declared.Verdict.the-variants as verdict
 use Rattle.table.specs.Buffers.{Buffers, Outcome, judged}
@@ -32,7 +32,7 @@ use Rattle.sheets.specs.declared.sheet.SheetBuilt.{SheetBuilt}
 use Rattle.sheets.specs.declared.sheet.SheetBuilt.the-variants as sheet-built
 use Rattle.sheets.specs.declared.sheet.SheetEnd.{SheetEnd}
 use Rattle.table.specs.declared.ends.End.{End}
-use Rattle.export_build.specs.Building.{CurveAcross, noAnswer, shortRefusal, countLeft, tailLeft, curveAcross}
+use Rattle.export_build.specs.Building.{CurveAcross, noAnswer, shortRefusal, countLeft, tailLeft, inMode}
 use Rattle.export_build.specs.Steps.{lastRefusal, lastCut, lastGrowth}
 use Rattle.export_build.specs.OneSheet as one-sheet
 
@@ -51,19 +51,24 @@ pub curve-written : (b : Built) (c : Curve) (sections : List ℕ) (tail : List F
     × (set (set (set tail 0 (c .tail .value)) 1 (c .tail .total)) 2 (c .tail .from) ≡ tailLeft b tail))
 curve-written b c sections tail e = (rw e, (rw e, rw e))
 
--- whatever the library answers and leaves
-module _ (b : Buffers) (sections : List ℕ) (tail : List Float) (d : Outcome Built) where
+-- a mode that is not known: no slice changes
+pub mode-refused : (b : Buffers) (sections : List ℕ) (tail : List Float) (d : Outcome Built) (isUnknown : Bool) (n : ℕ) → isUnknown ≡ true → n ≡ number SplitUnknown →
+    record { refusal = n; buffers = b; sections = sections; tail = tail } ≡ inMode isUnknown b sections tail d
+mode-refused b sections tail d isUnknown n h e = rw (h, e)
+
+-- in a known mode, whatever the library answers and leaves
+module _ (isUnknown : Bool) (known : isUnknown ≡ false) (b : Buffers) (sections : List ℕ) (tail : List Float) (d : Outcome Built) where
   pub curve-short : (n : ℕ) → noAnswer (length sections) (length tail) ≡ true → n ≡ shortRefusal (d .answer) →
-      record { refusal = n; buffers = b; sections = sections; tail = tail } ≡ curveAcross b sections tail d
-  curve-short n h e = rw (h, e)
+      record { refusal = n; buffers = b; sections = sections; tail = tail } ≡ inMode isUnknown b sections tail d
+  curve-short n h e = rw (known, h, e)
 
   abbrev told : Outcome Built → CurveAcross
   told o = record { refusal = curveInNumbers (o .answer) .refusal; buffers = o .buffers; sections = countLeft (o .answer) sections; tail = tailLeft (o .answer) tail }
 
   pub curve-roomy : (o : Outcome Built) (n : ℕ) (s : List ℕ) (t : List Float) → noAnswer (length sections) (length tail) ≡ false → o ≡ d →
       (n ≡ curveInNumbers (o .answer) .refusal) × ((s ≡ countLeft (o .answer) sections) × (t ≡ tailLeft (o .answer) tail)) →
-      record { refusal = n; buffers = o .buffers; sections = s; tail = t } ≡ curveAcross b sections tail d
-  curve-roomy o n s t h e (p, (q, r)) = rw (p, q, r) (ap told e ∙ rw h)
+      record { refusal = n; buffers = o .buffers; sections = s; tail = t } ≡ inMode isUnknown b sections tail d
+  curve-roomy o n s t h e (p, (q, r)) = rw (p, q, r) (ap told e ∙ rw (known, h))
 
 -- the refusal where there is no room for the answers: of a build, of a growing table and of one in sheets
 last-of : (v : Verdict) (b : Buffers) (new : Outcome Built) (c : Curve) → new .answer ≡ built.Curve c → lastRefusal v ≡ shortRefusal (judged v built.Refused b new .answer)
@@ -111,17 +116,21 @@ pub end-written : (b : SheetBuilt) (s : SheetEnd) (answer : List Float) → b �
     × (set (set (set (set answer 0 (s .total)) 1 (s .tail .value)) 2 (s .tail .total)) 3 (s .tail .from) ≡ one-sheet.endLeft b answer)
 end-written b s answer e = (rw e, rw e)
 
-module _ (b : Buffers) (answer : List Float) (d : Outcome SheetBuilt) where
+pub sheet-mode-refused : (b : Buffers) (answer : List Float) (d : Outcome SheetBuilt) (isUnknown : Bool) (n : ℕ) → isUnknown ≡ true → n ≡ number SplitUnknown →
+    record { refusal = n; buffers = b; answer = answer } ≡ one-sheet.inModeSheet isUnknown b answer d
+sheet-mode-refused b answer d isUnknown n h e = rw (h, e)
+
+module _ (isUnknown : Bool) (known : isUnknown ≡ false) (b : Buffers) (answer : List Float) (d : Outcome SheetBuilt) where
   pub sheet-short : (n : ℕ) → ltb (length answer) 4 ≡ true → n ≡ one-sheet.shortRefusal (d .answer) →
-      record { refusal = n; buffers = b; answer = answer } ≡ one-sheet.sheetAcross b answer d
-  sheet-short n h e = rw (h, e)
+      record { refusal = n; buffers = b; answer = answer } ≡ one-sheet.inModeSheet isUnknown b answer d
+  sheet-short n h e = rw (known, h, e)
 
   abbrev told-sheet : Outcome SheetBuilt → one-sheet.SheetAcross
   told-sheet o = record { refusal = sheetInNumbers (o .answer) .refusal; buffers = o .buffers; answer = one-sheet.endLeft (o .answer) answer }
 
   pub sheet-roomy : (o : Outcome SheetBuilt) (n : ℕ) (l : List Float) → ltb (length answer) 4 ≡ false → o ≡ d →
-      (n ≡ sheetInNumbers (o .answer) .refusal) × (l ≡ one-sheet.endLeft (o .answer) answer) → record { refusal = n; buffers = o .buffers; answer = l } ≡ one-sheet.sheetAcross b answer d
-  sheet-roomy o n l h e (p, q) = rw (p, q) (ap told-sheet e ∙ rw h)
+      (n ≡ sheetInNumbers (o .answer) .refusal) × (l ≡ one-sheet.endLeft (o .answer) answer) → record { refusal = n; buffers = o .buffers; answer = l } ≡ one-sheet.inModeSheet isUnknown b answer d
+  sheet-roomy o n l h e (p, q) = rw (p, q) (ap told-sheet e ∙ rw (known, h))
 
 last-of-sheet : (v : Verdict) (b : Buffers) (new : Outcome SheetBuilt) (s : SheetEnd) → new .answer ≡ sheet-built.Sheet s →
     lastRefusal v ≡ one-sheet.shortRefusal (judged v sheet-built.Refused b new .answer)

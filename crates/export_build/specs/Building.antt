@@ -6,7 +6,7 @@ use lib.Dec.{ltb}
 use lib.Ieee.{Float}
 use lib.ListN.{length, set}
 use Rattle.refusal.specs.Refusal.{number}
-use Rattle.refusal.specs.declared.Refusal.the-variants.{BufferTooShort}
+use Rattle.refusal.specs.declared.Refusal.the-variants.{BufferTooShort, SplitUnknown}
 use Rattle.table.specs.Buffers.{Buffers, Outcome, buffers}
 use Rattle.table.specs.declared.ends.Seam.{Seam}
 use Rattle.table.specs.declared.ends.Seam.the-variants as seam
@@ -53,3 +53,8 @@ curveAcross b sections tail o =
     cond (noAnswer (length sections) (length tail))
     (record { refusal = shortRefusal (o .answer); buffers = b; sections = sections; tail = tail })
     (record { refusal = curveInNumbers (o .answer) .refusal; buffers = o .buffers; sections = countLeft (o .answer) sections; tail = tailLeft (o .answer) tail })
+
+-- A mode that is not known is refused first, by a number of our own, and no slice changes.
+abbrev pub inMode : Bool → Buffers → List ℕ → List Float → Outcome Built → CurveAcross
+inMode isUnknown b sections tail o =
+    cond isUnknown (record { refusal = number SplitUnknown; buffers = b; sections = sections; tail = tail }) (curveAcross b sections tail o)

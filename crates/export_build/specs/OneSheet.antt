@@ -6,7 +6,7 @@ use lib.Dec.{ltb}
 use lib.Ieee.{Float}
 use lib.ListN.{length, set}
 use Rattle.refusal.specs.Refusal.{number}
-use Rattle.refusal.specs.declared.Refusal.the-variants.{BufferTooShort}
+use Rattle.refusal.specs.declared.Refusal.the-variants.{BufferTooShort, SplitUnknown}
 use Rattle.table.specs.Buffers.{Buffers, Outcome, buffers}
 use Rattle.table.specs.declared.ends.End.{End}
 use Rattle.table.specs.declared.ends.End.the-variants as end
@@ -44,3 +44,7 @@ sheetAcross b answer o =
     cond (ltb (length answer) 4)
     (record { refusal = shortRefusal (o .answer); buffers = b; answer = answer })
     (record { refusal = sheetInNumbers (o .answer) .refusal; buffers = o .buffers; answer = endLeft (o .answer) answer })
+
+-- A mode that is not known is refused first, by a number of our own, and no slice changes.
+abbrev pub inModeSheet : Bool → Buffers → List Float → Outcome SheetBuilt → SheetAcross
+inModeSheet isUnknown b answer o = cond isUnknown (record { refusal = number SplitUnknown; buffers = b; answer = answer }) (sheetAcross b answer o)

@@ -12,8 +12,8 @@ ghost use lib.ListN.{length};
 ghost use Rattle.table.specs.Buffers.{buffers};
 ghost use Rattle.curve.specs.Build.{buildOutcome};
 ghost use Rattle.curve.specs.Curve.{curveInNumbers};
-ghost use Rattle.export_build.specs.Building.{seamOf, across, noAnswer, countLeft, tailLeft, curveAcross};
-ghost use Rattle.export_build.specs.Settings.{methodOf};
+ghost use Rattle.export_build.specs.Building.{seamOf, across, noAnswer, countLeft, tailLeft, inMode};
+ghost use Rattle.export_build.specs.Settings.{unknown, methodOf};
 ghost use Rattle.export_build.specs.Steps.{lastRefusal};
 
 // A seam across the boundary: whether there is one, its count and its node.
@@ -75,7 +75,7 @@ pub extern "C" fn havgrunel_build(
     quadraticity: f64,
     monotonicity: f64,
     positive: bool,
-    careful: bool,
+    split: u8,
     hold: bool,
     seamed: bool,
     seam_count: usize,
@@ -86,9 +86,12 @@ pub extern "C" fn havgrunel_build(
     sections: &mut [usize],
     tail: &mut [f64],
 ) -> u8
-    ensures { λ r. ⌜ across r (now (nodes .exit)) (now (tags .exit)) (now (slots .exit)) (now (sections .exit)) (now (tail .exit)) ≡ curveAcross (buffers (now (nodes .entry)) (now (tags .entry)) (now (slots .entry))) (now (sections .entry)) (now (tail .entry)) (buildOutcome (now (knots .entry)) (now (averages .entry)) (methodOf quadraticity monotonicity positive careful) hold (seamOf seamed «seam_count» «seam_node») (buffers (now (nodes .entry)) (now (tags .entry)) (now (slots .entry)))) ⌝ }
+    ensures { λ r. ⌜ across r (now (nodes .exit)) (now (tags .exit)) (now (slots .exit)) (now (sections .exit)) (now (tail .exit)) ≡ inMode (unknown split) (buffers (now (nodes .entry)) (now (tags .entry)) (now (slots .entry))) (now (sections .entry)) (now (tail .entry)) (buildOutcome (now (knots .entry)) (now (averages .entry)) (methodOf quadraticity monotonicity positive split) hold (seamOf seamed «seam_count» «seam_node») (buffers (now (nodes .entry)) (now (tags .entry)) (now (slots .entry)))) ⌝ }
 {
-    let method = method_of(quadraticity, monotonicity, positive, careful);
+    if 2 < split {
+        return Refusal::SplitUnknown.number();
+    }
+    let method = method_of(quadraticity, monotonicity, positive, split);
     let seam = seam_of(seamed, seam_count, seam_node);
     if no_answer(sections.len(), tail.len()) {
         return last_refusal(build_verdict(

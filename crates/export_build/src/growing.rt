@@ -10,6 +10,7 @@ use growth::growth::Carried;
 use growth::growth::Previous;
 use growth::growth::carry;
 use growth::growth::grow;
+use refusal::Refusal;
 use table::method::ConvexMonotone;
 ghost use mathlib.Core.Path.{_≡_};
 ghost use lib.ListN.{length};
@@ -17,9 +18,9 @@ ghost use Rattle.refusal.specs.Refusal.{first};
 ghost use Rattle.table.specs.Buffers.{buffers};
 ghost use Rattle.curve.specs.Build.{buildTests};
 ghost use Rattle.growth.specs.Growth.{carriedAt, growOutcome};
-ghost use Rattle.export_build.specs.Building.{across, curveAcross};
+ghost use Rattle.export_build.specs.Building.{across, inMode};
 ghost use Rattle.export_build.specs.Growing.{previousOf};
-ghost use Rattle.export_build.specs.Settings.{methodOf};
+ghost use Rattle.export_build.specs.Settings.{unknown, methodOf};
 ghost use Rattle.export_build.specs.Steps.{lastGrowth};
 
 // What growth reads of the previous curve beside its records. It asks for no price, so the tail is not needed.
@@ -80,7 +81,7 @@ pub extern "C" fn havgrunel_grow(
     quadraticity: f64,
     monotonicity: f64,
     positive: bool,
-    careful: bool,
+    split: u8,
     localisation: usize,
     final_size: usize,
     grown: bool,
@@ -94,9 +95,12 @@ pub extern "C" fn havgrunel_grow(
     sections: &mut [usize],
     tail: &mut [f64],
 ) -> u8
-    ensures { λ r. ⌜ across r (now (nodes .exit)) (now (tags .exit)) (now (slots .exit)) (now (sections .exit)) (now (tail .exit)) ≡ curveAcross (buffers (now (nodes .entry)) (now (tags .entry)) (now (slots .entry))) (now (sections .entry)) (now (tail .entry)) (growOutcome (now (knots .entry)) (now (averages .entry)) (methodOf quadraticity monotonicity positive careful) localisation «final_size» (previousOf grown «previous_sections» «previous_held») (now («previous_tags» .entry)) (now («previous_slots» .entry)) (buffers (now (nodes .entry)) (now (tags .entry)) (now (slots .entry)))) ⌝ }
+    ensures { λ r. ⌜ across r (now (nodes .exit)) (now (tags .exit)) (now (slots .exit)) (now (sections .exit)) (now (tail .exit)) ≡ inMode (unknown split) (buffers (now (nodes .entry)) (now (tags .entry)) (now (slots .entry))) (now (sections .entry)) (now (tail .entry)) (growOutcome (now (knots .entry)) (now (averages .entry)) (methodOf quadraticity monotonicity positive split) localisation «final_size» (previousOf grown «previous_sections» «previous_held») (now («previous_tags» .entry)) (now («previous_slots» .entry)) (buffers (now (nodes .entry)) (now (tags .entry)) (now (slots .entry)))) ⌝ }
 {
-    let method = method_of(quadraticity, monotonicity, positive, careful);
+    if 2 < split {
+        return Refusal::SplitUnknown.number();
+    }
+    let method = method_of(quadraticity, monotonicity, positive, split);
     let previous = previous_of(grown, previous_sections, previous_held);
     if no_answer(sections.len(), tail.len()) {
         return refusal_of(

@@ -16,8 +16,8 @@ ghost use Rattle.table.specs.Buffers.{buffers};
 ghost use Rattle.curve.specs.Build.{buildTests};
 ghost use Rattle.sheets.specs.Cuts.{cutsFit};
 ghost use Rattle.sheets.specs.InSheets.{inSheetsOutcome};
-ghost use Rattle.export_build.specs.Building.{across, curveAcross};
-ghost use Rattle.export_build.specs.Settings.{methodOf};
+ghost use Rattle.export_build.specs.Building.{across, inMode};
+ghost use Rattle.export_build.specs.Settings.{unknown, methodOf};
 ghost use Rattle.export_build.specs.Steps.{lastCut};
 
 // The first refusal of a table in sheets for buffers of these lengths, where its answers have no room.
@@ -47,7 +47,7 @@ pub extern "C" fn havgrunel_build_in_sheets(
     quadraticity: f64,
     monotonicity: f64,
     positive: bool,
-    careful: bool,
+    split: u8,
     cuts: &[usize],
     nodes: &mut [f64],
     tags: &mut [u16],
@@ -55,9 +55,12 @@ pub extern "C" fn havgrunel_build_in_sheets(
     sections: &mut [usize],
     tail: &mut [f64],
 ) -> u8
-    ensures { λ r. ⌜ across r (now (nodes .exit)) (now (tags .exit)) (now (slots .exit)) (now (sections .exit)) (now (tail .exit)) ≡ curveAcross (buffers (now (nodes .entry)) (now (tags .entry)) (now (slots .entry))) (now (sections .entry)) (now (tail .entry)) (inSheetsOutcome (now (knots .entry)) (now (averages .entry)) (methodOf quadraticity monotonicity positive careful) (now (cuts .entry)) (buffers (now (nodes .entry)) (now (tags .entry)) (now (slots .entry)))) ⌝ }
+    ensures { λ r. ⌜ across r (now (nodes .exit)) (now (tags .exit)) (now (slots .exit)) (now (sections .exit)) (now (tail .exit)) ≡ inMode (unknown split) (buffers (now (nodes .entry)) (now (tags .entry)) (now (slots .entry))) (now (sections .entry)) (now (tail .entry)) (inSheetsOutcome (now (knots .entry)) (now (averages .entry)) (methodOf quadraticity monotonicity positive split) (now (cuts .entry)) (buffers (now (nodes .entry)) (now (tags .entry)) (now (slots .entry)))) ⌝ }
 {
-    let method = method_of(quadraticity, monotonicity, positive, careful);
+    if 2 < split {
+        return Refusal::SplitUnknown.number();
+    }
+    let method = method_of(quadraticity, monotonicity, positive, split);
     if no_answer(sections.len(), tail.len()) {
         return cut_refusal(
             knots,

@@ -1,6 +1,7 @@
 // A part of a table built into its place in the whole's buffers.
 use crate::building::last_refusal;
 use crate::settings::method_of;
+use refusal::Refusal;
 use sheets::sheet::SheetBuilt;
 use sheets::sheet::sheet;
 use sheets::sheet::sheet_verdict;
@@ -11,8 +12,8 @@ ghost use lib.ListN.{length};
 ghost use Rattle.table.specs.Buffers.{buffers};
 ghost use Rattle.table.specs.Table.{inner};
 ghost use Rattle.sheets.specs.Sheet.{sheetOutcome, sheetInNumbers};
-ghost use Rattle.export_build.specs.OneSheet.{endOf, across, endLeft, sheetAcross};
-ghost use Rattle.export_build.specs.Settings.{methodOf};
+ghost use Rattle.export_build.specs.OneSheet.{endOf, across, endLeft, inModeSheet};
+ghost use Rattle.export_build.specs.Settings.{unknown, methodOf};
 
 // The node at an inner knot, from its neighbours and the averages of the periods that end at it and at the knot after it: what the sheets on both
 // sides of a cut are given.
@@ -67,7 +68,7 @@ pub extern "C" fn havgrunel_sheet(
     quadraticity: f64,
     monotonicity: f64,
     positive: bool,
-    careful: bool,
+    split: u8,
     left_given: bool,
     left_node: f64,
     right_given: bool,
@@ -79,9 +80,12 @@ pub extern "C" fn havgrunel_sheet(
     slots: &mut [f64],
     answer: &mut [f64],
 ) -> u8
-    ensures { λ r. ⌜ across r (now (nodes .exit)) (now (tags .exit)) (now (slots .exit)) (now (answer .exit)) ≡ sheetAcross (buffers (now (nodes .entry)) (now (tags .entry)) (now (slots .entry))) (now (answer .entry)) (sheetOutcome (now (knots .entry)) (now (averages .entry)) (methodOf quadraticity monotonicity positive careful) (endOf «left_given» «left_node») (endOf «right_given» «right_node») start place (buffers (now (nodes .entry)) (now (tags .entry)) (now (slots .entry)))) ⌝ }
+    ensures { λ r. ⌜ across r (now (nodes .exit)) (now (tags .exit)) (now (slots .exit)) (now (answer .exit)) ≡ inModeSheet (unknown split) (buffers (now (nodes .entry)) (now (tags .entry)) (now (slots .entry))) (now (answer .entry)) (sheetOutcome (now (knots .entry)) (now (averages .entry)) (methodOf quadraticity monotonicity positive split) (endOf «left_given» «left_node») (endOf «right_given» «right_node») start place (buffers (now (nodes .entry)) (now (tags .entry)) (now (slots .entry)))) ⌝ }
 {
-    let method = method_of(quadraticity, monotonicity, positive, careful);
+    if 2 < split {
+        return Refusal::SplitUnknown.number();
+    }
+    let method = method_of(quadraticity, monotonicity, positive, split);
     let left = end_of(left_given, left_node);
     let right = end_of(right_given, right_node);
     if answer.len() < 4 {

@@ -2,20 +2,30 @@
 use table::method::ConvexMonotone;
 use table::method::Split;
 ghost use mathlib.Core.Path.{_≡_};
-ghost use Rattle.export_build.specs.Settings.{methodOf};
+ghost use Rattle.export_build.specs.Settings.{splitOf, methodOf};
 
-// The method's numbers, positivity, and whether the split is the careful one.
+// The split by its number: 0 is the original's, 1 the careful one and 2 the safe one. Every call refuses any other number beforehand.
+fn split_of(split: u8) -> Split
+    ensures { λ r. ⌜ r ≡ splitOf split ⌝ }
+{
+    if split == 1 {
+        return Split::Careful;
+    }
+    if split == 2 {
+        return Split::Safe;
+    }
+    Split::Original
+}
+
+// The method's numbers, positivity, and the number of the split.
 pub(crate) fn method_of(
     quadraticity: f64,
     monotonicity: f64,
     positive: bool,
-    careful: bool,
+    split: u8,
 ) -> ConvexMonotone
-    ensures { λ r. ⌜ r ≡ methodOf quadraticity monotonicity positive careful ⌝ }
+    ensures { λ r. ⌜ r ≡ methodOf quadraticity monotonicity positive split ⌝ }
 {
     let method = ConvexMonotone::new(quadraticity, monotonicity, positive);
-    if careful {
-        return method.with_split(Split::Careful);
-    }
-    method
+    method.with_split(split_of(split))
 }

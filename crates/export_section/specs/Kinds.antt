@@ -1,4 +1,4 @@
--- 000, the kinds' `new`; 02, K3, the careful one of QuadraticMin; 01, Buffers and section records: a single section, and its record in a lent tag and lent slots
+-- 000, the kinds' `new`; 02, K3, the careful one of QuadraticMin; our own safe ones; 01, Buffers and section records: a single section, and its record in a lent tag and lent slots
 use Prim.Native.Nat.{ℕ}
 use mathlib.Core.Bool.{Bool, cond, _||_}
 use mathlib.Core.List.{List}
@@ -58,6 +58,9 @@ fourth «x_prev» «x_next» «g_prev» «g_next» «f_average» eta4 «prev_pri
 abbrev pub fourthMin : Float → Float → Float → Float → Float → Float → Float → Section
 fourthMin «x_prev» «x_next» «g_prev» «g_next» «f_average» eta4 «prev_primitive» = section.ConvexMonotone4Min (ConvexMonotone4Min.new «x_prev» «x_next» «g_prev» «g_next» «f_average» eta4 «prev_primitive»)
 
+abbrev pub fourthMinSafe : Float → Float → Float → Float → Float → Float → Float → Section
+fourthMinSafe «x_prev» «x_next» «g_prev» «g_next» «f_average» eta4 «prev_primitive» = section.ConvexMonotone4Min (ConvexMonotone4Min.safe «x_prev» «x_next» «g_prev» «g_next» «f_average» eta4 «prev_primitive»)
+
 abbrev pub quadratic : Float → Float → Float → Float → Float → Float → Section
 quadratic «x_prev» «x_next» «f_prev» «f_next» «f_average» «prev_primitive» = section.Quadratic (Quadratic.new «x_prev» «x_next» «f_prev» «f_next» «f_average» «prev_primitive»)
 
@@ -66,3 +69,6 @@ quadraticMin «x_prev» «x_next» «f_prev» «f_next» «f_average» «prev_pr
 
 abbrev pub quadraticMinCareful : Float → Float → Float → Float → Float → Float → Section
 quadraticMinCareful «x_prev» «x_next» «f_prev» «f_next» «f_average» «prev_primitive» = section.QuadraticMin (QuadraticMin.careful «x_prev» «x_next» «f_prev» «f_next» «f_average» «prev_primitive»)
+
+abbrev pub quadraticMinSafe : Float → Float → Float → Float → Float → Float → Section
+quadraticMinSafe «x_prev» «x_next» «f_prev» «f_next» «f_average» «prev_primitive» = section.QuadraticMin (QuadraticMin.safe «x_prev» «x_next» «f_prev» «f_next» «f_average» «prev_primitive»)

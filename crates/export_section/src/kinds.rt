@@ -14,7 +14,7 @@ use section::constant_grad::ConstantGrad;
 use section::everywhere_constant::EverywhereConstant;
 use section::section::Section;
 ghost use mathlib.Core.Path.{_≡_};
-ghost use Rattle.export_section.specs.Kinds.{across, sectionAcross, constant, gradient, second, third, fourth, fourthMin, quadratic, quadraticMin, quadraticMinCareful};
+ghost use Rattle.export_section.specs.Kinds.{across, sectionAcross, constant, gradient, second, third, fourth, fourthMin, fourthMinSafe, quadratic, quadraticMin, quadraticMinCareful, quadraticMinSafe};
 
 // Writes a section: its tag into the first entry of `tag`, its fields into the first entries of `slots`.
 fn put(section: Section, tag: &mut [u16], slots: &mut [f64]) -> u8
@@ -172,6 +172,33 @@ pub extern "C" fn havgrunel_convex_monotone4_min(
     put(Section::ConvexMonotone4Min(section), tag, slots)
 }
 
+// The same, flat at its average where it would be squeezed to next to nothing.
+#[no_mangle]
+pub extern "C" fn havgrunel_convex_monotone4_min_safe(
+    x_prev: f64,
+    x_next: f64,
+    g_prev: f64,
+    g_next: f64,
+    f_average: f64,
+    eta4: f64,
+    prev_primitive: f64,
+    tag: &mut [u16],
+    slots: &mut [f64],
+) -> u8
+    ensures { λ r. ⌜ across r (now (tag .exit)) (now (slots .exit)) ≡ sectionAcross (fourthMinSafe «x_prev» «x_next» «g_prev» «g_next» «f_average» eta4 «prev_primitive») (now (tag .entry)) (now (slots .entry)) ⌝ }
+{
+    let section = ConvexMonotone4Min::safe(
+        x_prev,
+        x_next,
+        g_prev,
+        g_next,
+        f_average,
+        eta4,
+        prev_primitive,
+    );
+    put(Section::ConvexMonotone4Min(section), tag, slots)
+}
+
 // The parabola through two nodes with the average.
 #[no_mangle]
 pub extern "C" fn havgrunel_quadratic(
@@ -223,5 +250,23 @@ pub extern "C" fn havgrunel_quadratic_min_careful(
     ensures { λ r. ⌜ across r (now (tag .exit)) (now (slots .exit)) ≡ sectionAcross (quadraticMinCareful «x_prev» «x_next» «f_prev» «f_next» «f_average» «prev_primitive») (now (tag .entry)) (now (slots .entry)) ⌝ }
 {
     let section = QuadraticMin::careful(x_prev, x_next, f_prev, f_next, f_average, prev_primitive);
+    put(Section::QuadraticMin(section), tag, slots)
+}
+
+// The same by the safe rule.
+#[no_mangle]
+pub extern "C" fn havgrunel_quadratic_min_safe(
+    x_prev: f64,
+    x_next: f64,
+    f_prev: f64,
+    f_next: f64,
+    f_average: f64,
+    prev_primitive: f64,
+    tag: &mut [u16],
+    slots: &mut [f64],
+) -> u8
+    ensures { λ r. ⌜ across r (now (tag .exit)) (now (slots .exit)) ≡ sectionAcross (quadraticMinSafe «x_prev» «x_next» «f_prev» «f_next» «f_average» «prev_primitive») (now (tag .entry)) (now (slots .entry)) ⌝ }
+{
+    let section = QuadraticMin::safe(x_prev, x_next, f_prev, f_next, f_average, prev_primitive);
     put(Section::QuadraticMin(section), tag, slots)
 }

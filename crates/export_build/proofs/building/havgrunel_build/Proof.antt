@@ -3,6 +3,7 @@ use mathlib.Core.Bool.{Bool, false}
 use mathlib.Core.List.{List}
 use mathlib.Core.Path.{_≡_, sym, ap, _∙_}
 use borrow.Author.Needs.{needs}
+use borrow.Author.Tests.{lt-ltb, le-ltb}
 use lib.Ieee.{Float}
 use lib.ListN.{length}
 use Rattle.table.specs.Buffers.{Buffers, Outcome, buffers}
@@ -11,8 +12,8 @@ use Rattle.table.specs.declared.ends.Seam.{Seam}
 use Rattle.curve.specs.Build.{buildOutcome}
 use Rattle.curve.specs.declared.curve.Built.{Built}
 use Rattle.export_build.specs.Building.{seamOf, noAnswer, shortRefusal}
-use Rattle.export_build.specs.Settings.{methodOf}
-use Rattle.export_build.proofs.Across.{roomy, curve-short, curve-roomy, build-last}
+use Rattle.export_build.specs.Settings.{unknown, methodOf}
+use Rattle.export_build.proofs.Across.{roomy, mode-refused, curve-short, curve-roomy, build-last}
 use Rattle.export_build.proofs.building.havgrunel_build.Statement.{statement}
 use Rattle.export_build.proofs.building.havgrunel_build.Tie as tie
 
@@ -22,45 +23,55 @@ same-build x y m n hold s t b e f = ap (λ (k : ConvexMonotone). buildOutcome x 
 
 returns : tie.Need-returns
 returns c =
+    let a = c .before .before .before .before .before .before .before .before .before .args in
+    let b = buffers (a .nodes .now) (a .tags .now) (a .slots .now) in
+    mode-refused b (a .sections .now) (a .tail .now)
+    (buildOutcome (a .knots .now) (a .averages .now) (methodOf (a .quadraticity) (a .monotonicity) (a .positive) (a .split)) (a .hold) (seamOf (a .seamed) (a .seam-count) (a .seam-node)) b)
+    (unknown (a .split)) _ (lt-ltb _ _ (c .before .if1 .taken)) (c .number .ensures)
+
+returns-2 : tie.Need-returns-2
+returns-2 c =
     let v = c .before in
     let n = v .before .before in
     let s = n .before in
     let w = s .before in
-    let a = w .before .before .before .before .before .before .before .before .args in
+    let a = w .before .before .before .before .before .before .before .before .before .args in
     let b = buffers (a .nodes .now) (a .tags .now) (a .slots .now) in
-    curve-short b (a .sections .now) (a .tail .now)
-    (buildOutcome (a .knots .now) (a .averages .now) (methodOf (a .quadraticity) (a .monotonicity) (a .positive) (a .careful)) (a .hold) (seamOf (a .seamed) (a .seam-count) (a .seam-node)) b) _
-    (sym (n .no-answer .ensures) ∙ v .before .if1 .taken)
+    curve-short (unknown (a .split)) (le-ltb _ _ (w .before .if1 .left)) b (a .sections .now) (a .tail .now)
+    (buildOutcome (a .knots .now) (a .averages .now) (methodOf (a .quadraticity) (a .monotonicity) (a .positive) (a .split)) (a .hold) (seamOf (a .seamed) (a .seam-count) (a .seam-node)) b) _
+    (sym (n .no-answer .ensures) ∙ v .before .if2 .taken)
     (build-last (a .knots .now) (a .averages .now) (w .method-of .result) (a .hold) (s .seam-of .result) b _ _ (v .build-verdict .ensures) (c .last-refusal .ensures)
     ∙ ap (λ (o : Outcome Built). shortRefusal (o .answer)) (same-build (a .knots .now) (a .averages .now) _ _ (a .hold) _ _ b (w .method-of .ensures) (s .seam-of .ensures)))
 
 -- past the test for room
-roomy-here : (c : tie.Else1) → let a = c .before .before .before .before .before .before .before .before .before .before .before .args in
+roomy-here : (c : tie.Else2) → let a = c .before .before .before .before .before .before .before .before .before .before .before .before .args in
     noAnswer (length (a .sections .now)) (length (a .tail .now)) ≡ false
-roomy-here c = sym (c .before .no-answer .ensures) ∙ c .if1 .left
+roomy-here c = sym (c .before .no-answer .ensures) ∙ c .if2 .left
 
 write-answer-requires : tie.Need-write-answer-requires
 write-answer-requires c κs = roomy _ _ (roomy-here (c .before .before .before .before .before .before .before .before .before .before .before .before))
 
-returns-2 : tie.Need-returns-2
-returns-2 c =
+returns-3 : tie.Need-returns-3
+returns-3 c =
     let t = c .before .before .before .before in
     let b = t .before .before .before .before .before .before .before .before .before in
     let e = b .before .before .before .before in
     let s = e .before .before in
     let w = s .before in
-    let a = w .before .before .before .before .before .before .before .before .args in
+    let a = w .before .before .before .before .before .before .before .before .before .args in
     let lent = buffers (a .nodes .now) (a .tags .now) (a .slots .now) in
-    curve-roomy lent (a .sections .now) (a .tail .now) _ _ _ _ _ (roomy-here e)
+    curve-roomy (unknown (a .split)) (le-ltb _ _ (w .before .if1 .left)) lent (a .sections .now) (a .tail .now) _ _ _ _ _ (roomy-here e)
     (b .build .ensures ∙ same-build (a .knots .now) (a .averages .now) _ _ (a .hold) _ _ lent (w .method-of .ensures) (s .seam-of .ensures)) (t .write-answer .ensures)
 
 pub havgrunel-build-spec : {M : Type 1} → statement M
 havgrunel-build-spec =
     tie.close
     (tie.spec
-    (λ c κs. search needs) (λ c κs. search needs) (λ c κs. search needs) (λ c κs. search needs) (λ c κs. search needs)
+    (λ c κs. search needs)
     returns
+    (λ c κs. search needs) (λ c κs. search needs) (λ c κs. search needs) (λ c κs. search needs) (λ c κs. search needs)
+    returns-2
     (λ c κs. search needs)
     write-answer-requires
     (λ c. search needs) (λ c. search needs) (λ c. search needs) (λ c. search needs) (λ c. search needs)
-    returns-2)
+    returns-3)

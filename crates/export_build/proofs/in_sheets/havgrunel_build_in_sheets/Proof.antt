@@ -2,52 +2,63 @@
 use mathlib.Core.Bool.{false}
 use mathlib.Core.Path.{_≡_, sym, ap, _∙_}
 use borrow.Author.Needs.{needs}
+use borrow.Author.Tests.{lt-ltb, le-ltb}
 use lib.ListN.{length}
 use Rattle.table.specs.Buffers.{buffers}
 use Rattle.table.specs.declared.method.ConvexMonotone.{ConvexMonotone}
 use Rattle.sheets.specs.InSheets.{inSheetsOutcome}
 use Rattle.export_build.specs.Building.{noAnswer, shortRefusal}
-use Rattle.export_build.specs.Settings.{methodOf}
-use Rattle.export_build.proofs.Across.{roomy, curve-short, curve-roomy, sheets-last}
+use Rattle.export_build.specs.Settings.{unknown, methodOf}
+use Rattle.export_build.proofs.Across.{roomy, mode-refused, curve-short, curve-roomy, sheets-last}
 use Rattle.export_build.proofs.in_sheets.havgrunel_build_in_sheets.Statement.{statement}
 use Rattle.export_build.proofs.in_sheets.havgrunel_build_in_sheets.Tie as tie
 
 returns : tie.Need-returns
 returns c =
+    let a = c .before .before .before .before .before .before .before .before .before .before .args in
+    let b = buffers (a .nodes .now) (a .tags .now) (a .slots .now) in
+    mode-refused b (a .sections .now) (a .tail .now)
+    (inSheetsOutcome (a .knots .now) (a .averages .now) (methodOf (a .quadraticity) (a .monotonicity) (a .positive) (a .split)) (a .cuts .now) b)
+    (unknown (a .split)) _ (lt-ltb _ _ (c .before .if1 .taken)) (c .number .ensures)
+
+returns-2 : tie.Need-returns-2
+returns-2 c =
     let n = c .before .before in
     let w = n .before in
-    let a = w .before .before .before .before .before .before .before .before .before .args in
+    let a = w .before .before .before .before .before .before .before .before .before .before .args in
     let b = buffers (a .nodes .now) (a .tags .now) (a .slots .now) in
-    curve-short b (a .sections .now) (a .tail .now) (inSheetsOutcome (a .knots .now) (a .averages .now) (methodOf (a .quadraticity) (a .monotonicity) (a .positive) (a .careful)) (a .cuts .now) b) _ (sym (n .no-answer .ensures) ∙ c .before .if1 .taken)
+    curve-short (unknown (a .split)) (le-ltb _ _ (w .before .if1 .left)) b (a .sections .now) (a .tail .now) (inSheetsOutcome (a .knots .now) (a .averages .now) (methodOf (a .quadraticity) (a .monotonicity) (a .positive) (a .split)) (a .cuts .now) b) _ (sym (n .no-answer .ensures) ∙ c .before .if2 .taken)
     (sheets-last (a .knots .now) (a .averages .now) (w .method-of .result) (a .cuts .now) b _ (c .cut-refusal .ensures)
     ∙ ap (λ (m : ConvexMonotone). shortRefusal (inSheetsOutcome (a .knots .now) (a .averages .now) m (a .cuts .now) b .answer)) (w .method-of .ensures))
 
 -- past the test for room
-roomy-here : (c : tie.Else1) → let a = c .before .before .before .before .before .before .before .before .before .before .before .args in
+roomy-here : (c : tie.Else2) → let a = c .before .before .before .before .before .before .before .before .before .before .before .before .args in
     noAnswer (length (a .sections .now)) (length (a .tail .now)) ≡ false
-roomy-here c = sym (c .before .no-answer .ensures) ∙ c .if1 .left
+roomy-here c = sym (c .before .no-answer .ensures) ∙ c .if2 .left
 
 write-answer-requires : tie.Need-write-answer-requires
 write-answer-requires c κs = roomy _ _ (roomy-here (c .before .before .before .before .before .before .before .before .before .before .before .before))
 
-returns-2 : tie.Need-returns-2
-returns-2 c =
+returns-3 : tie.Need-returns-3
+returns-3 c =
     let t = c .before .before .before .before in
     let b = t .before .before .before .before .before .before .before .before .before in
     let e = b .before .before .before .before in
     let w = e .before .before in
-    let a = w .before .before .before .before .before .before .before .before .before .args in
+    let a = w .before .before .before .before .before .before .before .before .before .before .args in
     let lent = buffers (a .nodes .now) (a .tags .now) (a .slots .now) in
-    curve-roomy lent (a .sections .now) (a .tail .now) _ _ _ _ _ (roomy-here e)
+    curve-roomy (unknown (a .split)) (le-ltb _ _ (w .before .if1 .left)) lent (a .sections .now) (a .tail .now) _ _ _ _ _ (roomy-here e)
     (b .build-in-sheets .ensures ∙ ap (λ (m : ConvexMonotone). inSheetsOutcome (a .knots .now) (a .averages .now) m (a .cuts .now) lent) (w .method-of .ensures)) (t .write-answer .ensures)
 
 pub havgrunel-build-in-sheets-spec : {M : Type 1} → statement M
 havgrunel-build-in-sheets-spec =
     tie.close
     (tie.spec
-    (λ c κs. search needs) (λ c κs. search needs) (λ c κs. search needs)
+    (λ c κs. search needs)
     returns
+    (λ c κs. search needs) (λ c κs. search needs) (λ c κs. search needs)
+    returns-2
     (λ c κs. search needs)
     write-answer-requires
     (λ c. search needs) (λ c. search needs) (λ c. search needs) (λ c. search needs) (λ c. search needs)
-    returns-2)
+    returns-3)

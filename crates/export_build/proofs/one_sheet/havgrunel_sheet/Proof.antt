@@ -11,8 +11,8 @@ use Rattle.table.specs.declared.ends.End.{End}
 use Rattle.sheets.specs.Sheet.{sheetOutcome}
 use Rattle.sheets.specs.declared.sheet.SheetBuilt.{SheetBuilt}
 use Rattle.export_build.specs.OneSheet.{endOf, shortRefusal}
-use Rattle.export_build.specs.Settings.{methodOf}
-use Rattle.export_build.proofs.Across.{sheet-short, sheet-roomy, sheet-last}
+use Rattle.export_build.specs.Settings.{unknown, methodOf}
+use Rattle.export_build.proofs.Across.{sheet-mode-refused, sheet-short, sheet-roomy, sheet-last}
 use Rattle.export_build.proofs.one_sheet.havgrunel_sheet.Statement.{statement}
 use Rattle.export_build.proofs.one_sheet.havgrunel_sheet.Tie as tie
 
@@ -25,37 +25,47 @@ module _ (x y : List Float) (m n : ConvexMonotone) (l k r q : End) (start : Floa
 
 returns : tie.Need-returns
 returns c =
+    let a = c .before .before .before .before .before .before .before .before .args in
+    let b = buffers (a .nodes .now) (a .tags .now) (a .slots .now) in
+    sheet-mode-refused b (a .answer .now)
+    (sheetOutcome (a .knots .now) (a .averages .now) (methodOf (a .quadraticity) (a .monotonicity) (a .positive) (a .split)) (endOf (a .left-given) (a .left-node)) (endOf (a .right-given) (a .right-node)) (a .start) (a .place) b)
+    (unknown (a .split)) _ (lt-ltb _ _ (c .before .if1 .taken)) (c .number .ensures)
+
+returns-2 : tie.Need-returns-2
+returns-2 c =
     let v = c .before in
     let r = v .before .before in
     let l = r .before in
     let w = l .before in
-    let a = w .before .before .before .before .before .before .before .args in
+    let a = w .before .before .before .before .before .before .before .before .args in
     let b = buffers (a .nodes .now) (a .tags .now) (a .slots .now) in
-    sheet-short b (a .answer .now)
-    (sheetOutcome (a .knots .now) (a .averages .now) (methodOf (a .quadraticity) (a .monotonicity) (a .positive) (a .careful)) (endOf (a .left-given) (a .left-node)) (endOf (a .right-given) (a .right-node)) (a .start) (a .place) b) _ (lt-ltb _ _ (v .before .if1 .taken))
+    sheet-short (unknown (a .split)) (le-ltb _ _ (w .before .if1 .left)) b (a .answer .now)
+    (sheetOutcome (a .knots .now) (a .averages .now) (methodOf (a .quadraticity) (a .monotonicity) (a .positive) (a .split)) (endOf (a .left-given) (a .left-node)) (endOf (a .right-given) (a .right-node)) (a .start) (a .place) b) _ (lt-ltb _ _ (v .before .if2 .taken))
     (sheet-last (a .knots .now) (a .averages .now) (w .method-of .result) (l .end-of .result) (r .end-of2 .result) (a .start) (a .place) b _ _ (v .sheet-verdict .ensures) (c .last-refusal .ensures)
     ∙ ap (λ (o : Outcome SheetBuilt). shortRefusal (o .answer))
     (same-sheet (a .knots .now) (a .averages .now) _ _ _ _ _ _ (a .start) (a .place) b (w .method-of .ensures) (l .end-of .ensures) (r .end-of2 .ensures)))
 
-returns-2 : tie.Need-returns-2
-returns-2 c =
+returns-3 : tie.Need-returns-3
+returns-3 c =
     let t = c .before .before in
     let d = t .before .before .before .before .before .before .before .before in
     let e = d .before .before .before .before in
     let r = e .before in
     let l = r .before in
     let w = l .before in
-    let a = w .before .before .before .before .before .before .before .args in
+    let a = w .before .before .before .before .before .before .before .before .args in
     let b = buffers (a .nodes .now) (a .tags .now) (a .slots .now) in
-    sheet-roomy b (a .answer .now) _ _ _ _ (le-ltb _ _ (e .if1 .left))
+    sheet-roomy (unknown (a .split)) (le-ltb _ _ (w .before .if1 .left)) b (a .answer .now) _ _ _ _ (le-ltb _ _ (e .if2 .left))
     (d .sheet .ensures ∙ same-sheet (a .knots .now) (a .averages .now) _ _ _ _ _ _ (a .start) (a .place) b (w .method-of .ensures) (l .end-of .ensures) (r .end-of2 .ensures)) (t .write-end .ensures)
 
 pub havgrunel-sheet-spec : {M : Type 1} → statement M
 havgrunel-sheet-spec =
     tie.close
     (tie.spec
-    (λ c κs. search needs) (λ c κs. search needs) (λ c κs. search needs) (λ c κs. search needs) (λ c κs. search needs)
+    (λ c κs. search needs)
     returns
+    (λ c κs. search needs) (λ c κs. search needs) (λ c κs. search needs) (λ c κs. search needs) (λ c κs. search needs)
+    returns-2
     (λ c κs. search needs) (λ c κs. search needs)
     (λ c. search needs) (λ c. search needs) (λ c. search needs) (λ c. search needs)
-    returns-2)
+    returns-3)
