@@ -2,14 +2,15 @@
 
 use std::fmt::{self, Display, Formatter};
 
+use havgrunel::Split;
 use oracle::{Recipe, Record, Seam, Settings};
 
 /// A table with its settings.
 #[derive(Clone)]
 pub struct Table {
     pub settings: Settings,
-    /// Whether parabolas are split by the careful rule, which the original has not.
-    pub careful: bool,
+    /// The mode; the original has one of them alone.
+    pub split: Split,
     pub hold: bool,
     pub seam: Option<Seam>,
     pub x: Vec<f64>,
@@ -60,7 +61,7 @@ pub struct Step {
     pub knots: usize,
     pub averages: usize,
     pub settings: Settings,
-    pub careful: bool,
+    pub split: Split,
     pub localisation: usize,
     pub final_size: usize,
     pub previous: Previous,
@@ -106,7 +107,7 @@ pub struct Sheets {
 #[derive(Clone)]
 pub struct Single {
     pub recipe: Recipe,
-    pub careful: bool,
+    pub split: Split,
     /// Entries for its slots.
     pub lent: usize,
     pub asked: Vec<f64>,
@@ -182,23 +183,24 @@ fn list(f: &mut Formatter<'_>, name: &str, floats: &[f64]) -> fmt::Result {
     writeln!(f)
 }
 
-fn settings(f: &mut Formatter<'_>, settings: &Settings, careful: bool) -> fmt::Result {
+fn settings(f: &mut Formatter<'_>, settings: &Settings, split: Split) -> fmt::Result {
     writeln!(f, "  quadraticity {}", Float(settings.quadraticity))?;
     writeln!(f, "  monotonicity {}", Float(settings.monotonicity))?;
     writeln!(f, "  positivity {}", settings.positivity)?;
-    rule(f, careful)
+    rule(f, split)
 }
 
-fn rule(f: &mut Formatter<'_>, careful: bool) -> fmt::Result {
-    if careful {
-        writeln!(f, "  split by the careful rule")?;
+fn rule(f: &mut Formatter<'_>, split: Split) -> fmt::Result {
+    match split {
+        Split::Original => Ok(()),
+        Split::Careful => writeln!(f, "  split by the careful rule"),
+        Split::Safe => writeln!(f, "  split by the safe rule"),
     }
-    Ok(())
 }
 
 impl Display for Table {
     fn fmt(&self, f: &mut Formatter<'_>) -> fmt::Result {
-        settings(f, &self.settings, self.careful)?;
+        settings(f, &self.settings, self.split)?;
         list(f, "knots", &self.x)?;
         list(f, "averages", &self.y)?;
         if self.hold {
@@ -250,7 +252,7 @@ impl Display for Step {
             " a step to {} knots and {} averages, localisation {}, final size {}",
             self.knots, self.averages, self.localisation, self.final_size
         )?;
-        settings(f, &self.settings, self.careful)?;
+        settings(f, &self.settings, self.split)?;
         match &self.previous {
             Previous::None => writeln!(f, "  from no curve")?,
             Previous::Last => writeln!(f, "  from the last curve, if there is one")?,
@@ -336,7 +338,7 @@ impl Display for Case {
                 let mut words = String::new();
                 single.recipe.push(&mut words);
                 writeln!(f, "section{words}\n  slots lent: {}", single.lent)?;
-                rule(f, single.careful)?;
+                rule(f, single.split)?;
                 list(f, "asked", &single.asked)
             }
             Case::Record(record, slots, answer, asked) => {

@@ -4,10 +4,14 @@ use std::fmt::{self, Display, Formatter};
 
 use oracle::legal_tags;
 
-use crate::expected::Splits;
+use crate::expected::{AVERAGE_BELOW_ZERO, Seen, Splits};
+use havgrunel::Split;
+use safe::Safe;
+
+pub mod safe;
 
 /// Refusal numbers that curves, records and sheets can meet.
-const REFUSALS: [u8; 17] = [
+const REFUSALS: [u8; 18] = [
     1,
     2,
     3,
@@ -25,10 +29,21 @@ const REFUSALS: [u8; 17] = [
     15,
     16,
     CUTS_NOT_INNER,
+    AVERAGE_BELOW_ZERO,
 ];
 
-/// The largest of them.
 pub const CUTS_NOT_INNER: u8 = 28;
+
+/// One more than the largest of them.
+const NUMBERS: usize = AVERAGE_BELOW_ZERO as usize + 1;
+
+/// How a curve came about.
+#[derive(Clone, Copy)]
+pub enum Way {
+    Built,
+    Cut,
+    Grown,
+}
 
 #[derive(Clone)]
 pub struct Counts {
@@ -62,7 +77,8 @@ pub struct Counts {
     kept_split: u64,
     /// Careful parabolas by themselves that the original splits, by their ratios.
     ratios: [u64; RATIOS.len()],
-    refused: [u64; CUTS_NOT_INNER as usize + 1],
+    pub safe: Safe,
+    refused: [u64; NUMBERS],
     /// Sections of curves, and sections by themselves, by the upper bits of their tags.
     built: [u64; 512],
     single: [u64; 512],
@@ -98,6 +114,11 @@ const RATIOS: [Ratio; 8] = [
     ("well above 1", |_| true),
 ];
 
+fn count(counts: &mut [u64], sorts: &[Ratio], ratio: f64) {
+    let sort = sorts.iter().position(|(_, holds)| holds(ratio));
+    counts[sort.expect("the last holds of all")] += 1;
+}
+
 fn combined(tag: u16) -> bool {
     tag & 0xf000 != 0 && tag & 0x0f00 != 0
 }
@@ -129,7 +150,8 @@ impl Default for Counts {
             split_above: 0,
             kept_split: 0,
             ratios: [0; RATIOS.len()],
-            refused: [0; CUTS_NOT_INNER as usize + 1],
+            safe: Safe::default(),
+            refused: [0; NUMBERS],
             built: [0; 512],
             single: [0; 512],
         }
@@ -150,8 +172,24 @@ impl Counts {
         self.single[usize::from(tag >> 7)] += 1;
     }
 
+    /// A curve that was accepted in a mode, and what the mode's rule did to it.
+    pub fn made(&mut self, way: Way, split: Split, seen: Option<Seen>) {
+        match seen {
+            Some(Seen::Careful(splits)) => {
+                *match way {
+                    Way::Built => &mut self.careful_builds,
+                    Way::Cut => &mut self.careful_cut,
+                    Way::Grown => &mut self.careful_steps,
+                } += 1;
+                self.splits(splits);
+            }
+            Some(Seen::Safe(safely)) => self.safe.made(way, safely),
+            None => self.safe.free += u64::from(split == Split::Safe),
+        }
+    }
+
     /// The sections of a careful curve.
-    pub fn splits(&mut self, splits: Splits) {
+    fn splits(&mut self, splits: Splits) {
         self.split += splits.original;
         self.split_above += splits.above;
         self.kept_split += splits.kept;
@@ -159,8 +197,7 @@ impl Counts {
 
     /// The ratio of a careful parabola by itself, where the original splits it.
     pub fn ratio(&mut self, ratio: f64) {
-        let class = RATIOS.iter().position(|(_, holds)| holds(ratio));
-        self.ratios[class.expect("the last holds of all")] += 1;
+        count(&mut self.ratios, &RATIOS, ratio);
     }
 
     /// The sections that the original splits and the careful rule leaves whole.
@@ -196,6 +233,7 @@ impl Counts {
         ] {
             *mine += others;
         }
+        self.safe.add(&other.safe);
         for (mine, others) in [
             (&mut self.refused[..], &other.refused[..]),
             (&mut self.ratios, &other.ratios),
@@ -265,6 +303,12 @@ impl Counts {
                 missing.push(format!("no careful parabola had a ratio {name}"));
             }
         }
+        let none = self
+            .safe
+            .rows()
+            .into_iter()
+            .filter(|(_, count)| *count == 0);
+        missing.extend(none.map(|(name, _)| format!("none of this: {name}")));
         missing
     }
 }
@@ -298,6 +342,9 @@ impl Display for Counts {
         row("in these: left whole by it", self.left_whole())?;
         for ((name, _), &count) in RATIOS.iter().zip(&self.ratios) {
             row(&format!("careful by itself, ratio {name}"), count)?;
+        }
+        for (name, count) in self.safe.rows() {
+            row(&name, count)?;
         }
         row("calls accepted", self.refused[0])?;
         for number in REFUSALS {

@@ -1,77 +1,32 @@
-//! What a section or a curve has to be: the original's, and in the careful mode the original's with every parabola that may be
-//! split made anew. The original has no such mode; its nodes, totals and choice of kinds are the same in both.
+//! What a section or a curve has to be: the original's, and in the careful and the safe mode the original's with every section made
+//! anew that the mode's rule is about. The original has no such modes; its nodes, totals and choice of kinds are the same in all.
 
 use oracle::{Recipe, Record, Refusal};
 
-use crate::careful::{Parabola, Period, Rule};
+use crate::anew::{Anew, Averages, CONSTANT, FOURTH_SPLIT, OTHER_KIND, OTHER_RATIO, OTHER_SPLIT};
+use crate::anew::{RATIO, SPLIT};
+use crate::parabola::Made;
+use crate::{careful, safe};
 
-/// The bits of a tag: a parabola that may be split, that it is, and the other half.
-const MIN: u16 = 0x4000;
-const SPLIT: u16 = 0x1000;
-const OTHER: u16 = 0x0fff;
+/// The refusal that the safe mode adds.
+pub const AVERAGE_BELOW_ZERO: u8 = 29;
 
-/// Where the weight of a combination's parabola stands, and its ratio, in a record.
-const WEIGHT: usize = 0;
-const RATIO: usize = 12;
-
-/// A section of the original's with its parabola made anew.
-struct Anew {
-    record: Record,
-    parabola: Parabola,
-    /// The other half of a combination.
-    other: Option<oracle::Section>,
+/// The rule of a mode that the original has not.
+#[derive(Clone, Copy)]
+pub enum Rule {
+    Careful(careful::Rule),
+    Safe(safe::Rule),
 }
 
-impl Anew {
-    /// From the record of the original's section and its period's average. The record says what else its parabola was made from,
-    /// split or not: both knots, the node at each and the total before. None where it has no parabola that may be split.
-    fn of(told: &Record, average: f64, rule: Rule) -> Option<Anew> {
-        if told.tag & MIN == 0 {
-            return None;
+impl Rule {
+    /// What is due of a table with these averages, where the original builds it or refuses it by number.
+    pub fn due<T>(rule: Option<Rule>, averages: &[f64], judged: Result<T, u8>) -> Result<T, u8> {
+        match rule {
+            Some(Rule::Safe(rule)) if (rule.refuses)(averages) => {
+                judged.and(Err(AVERAGE_BELOW_ZERO))
+            }
+            _ => judged,
         }
-        let period = Period {
-            x_prev: told.slots[1],
-            x_next: told.slots[4],
-            f_prev: told.slots[7],
-            f_next: told.slots[10],
-            average,
-            total: told.slots[8],
-        };
-        let parabola = Parabola::new(period, rule);
-        let split = if parabola.is_split() { SPLIT } else { 0 };
-        let mut record = Record {
-            tag: told.tag & !SPLIT | split,
-            ..*told
-        };
-        record.slots[1..13].copy_from_slice(&parabola.fields());
-        let other = oracle::section_of(&Record {
-            tag: told.tag & OTHER,
-            ..*told
-        });
-        Some(Anew {
-            record,
-            parabola,
-            other,
-        })
-    }
-
-    fn mixed(&self, parabola: f64, other: impl Fn(&oracle::Section) -> f64) -> f64 {
-        let weight = self.record.slots[WEIGHT];
-        self.other.as_ref().map_or(parabola, |section| {
-            weight * parabola + (1.0 - weight) * other(section)
-        })
-    }
-
-    fn value(&self, x: f64) -> f64 {
-        self.mixed(self.parabola.value(x), |other| other.value(x))
-    }
-
-    fn primitive(&self, x: f64) -> f64 {
-        self.mixed(self.parabola.primitive(x), |other| other.primitive(x))
-    }
-
-    fn f_next(&self) -> f64 {
-        self.mixed(self.parabola.f_next(), oracle::Section::f_next)
     }
 }
 
@@ -88,15 +43,19 @@ impl Section {
         Section { original, anew }
     }
 
-    /// From its arguments, by a rule of when a parabola is split or by the original's.
+    /// From its arguments, by a mode's rule or by the original's.
     pub fn made(recipe: &Recipe, rule: Option<Rule>) -> Section {
         let original = oracle::section(recipe);
-        let anew = match recipe {
-            Recipe::Quadratic(part) | Recipe::Combination(_, part, _) => {
-                rule.and_then(|rule| Anew::of(&original.record(), part.args()[4], rule))
-            }
-            _ => None,
+        let averages = match recipe {
+            Recipe::Constant(_) | Recipe::Gradient(_) => None,
+            Recipe::Convex(part) => Some([0.0, part.args()[4]]),
+            Recipe::Quadratic(part) => Some([part.args()[4], 0.0]),
+            Recipe::Combination(_, part, other) => Some([part.args()[4], other.args()[4]]),
         };
+        let anew = averages.zip(rule).and_then(|([parabola, other], rule)| {
+            let averages = Averages { parabola, other };
+            Anew::of(&original.record(), averages, rule)
+        });
         Section { original, anew }
     }
 
@@ -104,6 +63,12 @@ impl Section {
     pub fn ratio(&self) -> Option<f64> {
         let Record { tag, slots } = self.original.record();
         (tag & SPLIT != 0).then_some(slots[RATIO])
+    }
+
+    /// The ratio by which the original splits its other half of the fourth kind, if it does.
+    pub fn other_ratio(&self) -> Option<f64> {
+        let Record { tag, slots } = self.original.record();
+        (tag & OTHER_KIND == FOURTH_SPLIT).then_some(slots[OTHER_RATIO])
     }
 
     pub fn record(&self) -> Record {
@@ -135,31 +100,116 @@ pub struct Splits {
     pub kept: u64,
 }
 
+/// What became of the sections of a curve by the safe rule: those that are zero throughout, the parabolas that are split and those of
+/// them that the original leaves whole, those that it splits and the rule leaves whole, the level ones of both halves, and the
+/// parabolas whose ratio is exactly at either bound.
+#[derive(Clone, Copy, Default)]
+pub struct Safely {
+    pub zero: u64,
+    pub split: u64,
+    pub newly: u64,
+    pub whole: u64,
+    pub level: u64,
+    pub other_level: u64,
+    pub at_narrow: u64,
+    pub at_one: u64,
+}
+
+/// What a rule did to a curve.
+#[derive(Clone, Copy)]
+pub enum Seen {
+    Careful(Splits),
+    Safe(Safely),
+}
+
+impl Splits {
+    fn see(&mut self, told: &Record, anew: &Anew) {
+        if told.tag & SPLIT != 0 {
+            self.original += 1;
+            self.above += u64::from(told.slots[RATIO] > 1.0);
+            self.kept += u64::from(anew.record.tag & SPLIT != 0);
+        }
+    }
+}
+
+impl Safely {
+    pub fn add(&mut self, other: &Safely) {
+        for (mine, others) in [
+            (&mut self.zero, other.zero),
+            (&mut self.split, other.split),
+            (&mut self.newly, other.newly),
+            (&mut self.whole, other.whole),
+            (&mut self.level, other.level),
+            (&mut self.other_level, other.other_level),
+            (&mut self.at_narrow, other.at_narrow),
+            (&mut self.at_one, other.at_one),
+        ] {
+            *mine += others;
+        }
+    }
+
+    fn see(&mut self, told: &Record, anew: &Anew) {
+        if anew.record.tag == CONSTANT {
+            self.zero += 1;
+            return;
+        }
+        let was_split = told.tag & SPLIT != 0;
+        match anew.made {
+            Some(Made::Split(_)) => {
+                self.split += 1;
+                self.newly += u64::from(!was_split);
+            }
+            Some(Made::Level(_)) => self.level += 1,
+            Some(Made::Whole) => self.whole += u64::from(was_split),
+            None => {}
+        }
+        let other = told.tag & OTHER_SPLIT != anew.record.tag & OTHER_SPLIT;
+        self.other_level += u64::from(other);
+        self.at_narrow += u64::from(anew.ratio == Some(safe::NARROW));
+        self.at_one += u64::from(anew.ratio == Some(1.0));
+    }
+}
+
+impl Seen {
+    fn none(rule: Rule) -> Seen {
+        match rule {
+            Rule::Careful(_) => Seen::Careful(Splits::default()),
+            Rule::Safe(_) => Seen::Safe(Safely::default()),
+        }
+    }
+
+    fn see(&mut self, told: &Record, anew: &Anew) {
+        match self {
+            Seen::Careful(splits) => splits.see(told, anew),
+            Seen::Safe(safely) => safely.see(told, anew),
+        }
+    }
+}
+
 /// The sections of a curve that are not the original's, by their places, and what answers from the last knot on.
-struct Careful {
+struct Remade {
     sections: Vec<Option<Anew>>,
     tail: [f64; 3],
-    splits: Splits,
+    seen: Seen,
 }
 
 pub struct Curve {
     original: oracle::Curve,
     last_knot: f64,
-    careful: Option<Careful>,
+    remade: Option<Remade>,
 }
 
-impl Careful {
-    fn of(original: &oracle::Curve, x: &[f64], y: &[f64], rule: Rule) -> Careful {
-        let mut splits = Splits::default();
+impl Remade {
+    fn of(original: &oracle::Curve, x: &[f64], y: &[f64], rule: Rule) -> Remade {
+        let mut seen = Seen::none(rule);
+        let mut total = 0.0;
         let sections: Vec<Option<Anew>> = (0..original.sections())
             .map(|place| {
                 let told = original.record(place);
-                let anew = Anew::of(&told, y[place + 1], rule)?;
-                if told.tag & SPLIT != 0 {
-                    splits.original += 1;
-                    splits.above += u64::from(told.slots[RATIO] > 1.0);
-                    splits.kept += u64::from(anew.parabola.is_split());
-                }
+                let (from, average, before) = (x[place], y[place + 1], total);
+                total += average * (x[place + 1] - from);
+                let anew = Anew::at(&told, from, before, average, rule)?;
+                seen.see(&told, &anew);
                 Some(anew)
             })
             .collect();
@@ -167,22 +217,22 @@ impl Careful {
         if let Some(Some(last)) = sections.last() {
             tail[0] = last.value(x[x.len() - 1]);
         }
-        Careful {
+        Remade {
             sections,
             tail,
-            splits,
+            seen,
         }
     }
 }
 
 impl Curve {
-    /// From the original's curve of a table, by a rule of when a parabola is split or by the original's.
+    /// From the original's curve of a table, by a mode's rule or by the original's.
     pub fn new(original: oracle::Curve, x: &[f64], y: &[f64], rule: Option<Rule>) -> Curve {
-        let careful = rule.map(|rule| Careful::of(&original, x, y, rule));
+        let remade = rule.map(|rule| Remade::of(&original, x, y, rule));
         Curve {
             original,
             last_knot: x[x.len() - 1],
-            careful,
+            remade,
         }
     }
 
@@ -190,13 +240,13 @@ impl Curve {
         self.original
     }
 
-    /// How many sections the rule was asked about; none where it is the original's.
-    pub fn splits(&self) -> Option<Splits> {
-        self.careful.as_ref().map(|careful| careful.splits)
+    /// What the rule did; nothing where it is the original's.
+    pub fn seen(&self) -> Option<Seen> {
+        self.remade.as_ref().map(|remade| remade.seen)
     }
 
     fn anew(&self, place: usize) -> Option<&Anew> {
-        self.careful.as_ref()?.sections.get(place)?.as_ref()
+        self.remade.as_ref()?.sections.get(place)?.as_ref()
     }
 
     pub fn sections(&self) -> usize {
@@ -228,8 +278,8 @@ impl Curve {
     }
 
     pub fn extrapolation(&self) -> [f64; 3] {
-        let careful = self.careful.as_ref().map(|careful| careful.tail);
-        careful.unwrap_or_else(|| self.original.extrapolation())
+        let remade = self.remade.as_ref().map(|remade| remade.tail);
+        remade.unwrap_or_else(|| self.original.extrapolation())
     }
 
     pub fn with_extrapolation(self, allow: bool) -> Curve {
@@ -248,11 +298,11 @@ impl Curve {
             (Err(value), Err(primitive)) if value == primitive => return Err(value),
             _ => panic!("the original refuses one of value and primitive at {x:?}"),
         };
-        let Some(careful) = &self.careful else {
+        let Some(remade) = &self.remade else {
             return Ok(original);
         };
         if x >= self.last_knot {
-            let tail = oracle::section(&Recipe::Constant(careful.tail));
+            let tail = oracle::section(&Recipe::Constant(remade.tail));
             return Ok([tail.value(x), tail.primitive(x)]);
         }
         let anew = self.original.place(x).and_then(|place| self.anew(place));

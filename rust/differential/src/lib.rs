@@ -1,6 +1,7 @@
 //! The parts of the program that holds the proved library against the original: what is compared, drawn, judged, counted and made
 //! smaller. They are a library so that tests can judge by another rule.
 
+mod anew;
 pub mod careful;
 pub mod case;
 pub mod counts;
@@ -8,5 +9,7 @@ pub mod draw;
 mod expected;
 pub mod judge;
 mod lent;
+pub mod parabola;
 pub mod roots;
+pub mod safe;
 pub mod shrink;

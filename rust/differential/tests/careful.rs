@@ -5,6 +5,7 @@ use differential::careful::{Rule, in_period, touching};
 use differential::case::{Case, Previous, Queries, Room, Sheets, Single, Step, Table};
 use differential::judge::Judge;
 use differential::{draw, shrink};
+use havgrunel::Split;
 use oracle::{Quadratic, Recipe, Settings};
 
 /// Slots of a record.
@@ -36,10 +37,10 @@ fn differs(rule: Rule, case: &Case) -> Option<&'static str> {
 }
 
 /// Falling months; the original splits the first two at ratios of about 3.
-fn falling(careful: bool) -> Table {
+fn falling(split: Split) -> Table {
     Table {
         settings: STEEP,
-        careful,
+        split,
         hold: false,
         seam: None,
         x: vec![0.0, 1.0, 2.0, 3.0],
@@ -47,13 +48,13 @@ fn falling(careful: bool) -> Table {
     }
 }
 
-fn whole(careful: bool) -> Case {
-    Case::Build(falling(careful), Room::default(), Queries::default())
+fn whole(split: Split) -> Case {
+    Case::Build(falling(split), Room::default(), Queries::default())
 }
 
 fn in_sheets() -> Case {
     Case::Sheets(Sheets {
-        table: falling(true),
+        table: falling(Split::Careful),
         room: Room::default(),
         cuts: vec![1, 2],
         others: vec![2],
@@ -63,12 +64,12 @@ fn in_sheets() -> Case {
 }
 
 fn growing() -> Case {
-    let Table { x, y, .. } = falling(true);
+    let Table { x, y, .. } = falling(Split::Careful);
     let step = |points: usize| Step {
         knots: points,
         averages: points,
         settings: STEEP,
-        careful: true,
+        split: Split::Careful,
         localisation: 2,
         final_size: 4,
         previous: Previous::Last,
@@ -84,7 +85,7 @@ fn parabola(f_prev: f64, f_next: f64, average: f64) -> Case {
     let args = [0.0, 1.0, f_prev, f_next, average, 0.0];
     Case::Section(Single {
         recipe: Recipe::Quadratic(Quadratic::Min(args)),
-        careful: true,
+        split: Split::Careful,
         lent: SLOTS,
         asked: vec![0.0, 0.25, 0.75, 1.0],
     })
@@ -95,12 +96,17 @@ fn judged_by_the_originals_rule_a_falling_month_differs() {
     if !at_hand() {
         return;
     }
-    for case in [whole(true), in_sheets(), growing(), parabola(4.0, 1.0, 3.0)] {
+    for case in [
+        whole(Split::Careful),
+        in_sheets(),
+        growing(),
+        parabola(4.0, 1.0, 3.0),
+    ] {
         assert_eq!(differs(in_period, &case), None);
         assert_eq!(differs(original, &case), Some("a section's tag"));
     }
     // The original's mode is judged by the original alone.
-    assert_eq!(differs(|_| false, &whole(false)), None);
+    assert_eq!(differs(|_| false, &whole(Split::Original)), None);
 }
 
 #[test]
@@ -109,10 +115,10 @@ fn what_is_split_and_what_is_left_whole_is_counted() {
         return;
     }
     let mut judge = Judge::default();
-    assert!(judge.case(&whole(true)).is_ok());
+    assert!(judge.case(&whole(Split::Careful)).is_ok());
     assert_eq!(judge.counts.careful_builds, 1);
     assert_eq!(judge.counts.left_whole(), 2);
-    assert!(judge.case(&whole(false)).is_ok());
+    assert!(judge.case(&whole(Split::Original)).is_ok());
     assert_eq!(judge.counts.careful_builds, 1);
     assert!(judge.case(&in_sheets()).is_ok());
     assert_eq!(judge.counts.careful_cut, 1);

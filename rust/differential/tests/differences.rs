@@ -3,7 +3,7 @@
 use std::panic::{self, UnwindSafe};
 
 use havgrunel::lent::{self, Buffers, Curve, Seam};
-use havgrunel::{ConvexMonotone, Record, Refusal};
+use havgrunel::{ConvexMonotone, Record, Refusal, Split};
 use oracle::{Convex, Quadratic, Recipe, Settings};
 
 const PLAIN: Settings = Settings {
@@ -151,6 +151,31 @@ fn the_careful_split() {
     if at_hand() {
         let judged = oracle::section(&Recipe::Quadratic(Quadratic::Min(numbers)));
         assert!(oracle::words::same(1.5625, judged.value(0.75)));
+    }
+}
+
+/// The library has a third rule beside it, and a refusal that goes with that: no average may be below 0.
+#[test]
+fn the_safe_split() {
+    let (x, y) = ([0.0, 1.0, 2.0, 3.0], [0.0, 4.0, 0.0, 4.0]);
+    let positive = ConvexMonotone::new(0.0, 0.7, true);
+    let safe = positive.with_split(Split::Safe);
+    let curve = safe.interpolate(&x, &y).expect("builds");
+    assert_eq!(curve.value(1.0), Ok(0.0));
+    let below = [0.0, 4.0, -1.0, 4.0];
+    let refused = safe.interpolate(&x, &below).err();
+    assert_eq!(refused, Some(Refusal::AverageBelowZero));
+    assert!(positive.interpolate(&x, &below).is_ok());
+    if at_hand() {
+        let settings = Settings {
+            monotonicity: 0.7,
+            positivity: true,
+            ..PLAIN
+        };
+        // The month that traded at 0 is squeezed to nothing, and has no price at its first knot.
+        let curve = oracle::build(&settings, &x, &y).expect("builds");
+        assert!(curve.value(1.0).is_ok_and(f64::is_nan));
+        assert!(oracle::build(&settings, &x, &below).is_ok());
     }
 }
 

@@ -1,6 +1,7 @@
 //! The program itself: short runs agree, and the same seed tells the same.
 
 use std::process::{Command, Output};
+use std::sync::LazyLock;
 
 fn run(words: &[&str]) -> Output {
     let mut program = Command::new(env!("CARGO_BIN_EXE_differential"));
@@ -28,10 +29,14 @@ fn a_short_run_agrees_and_is_told_alike_twice() {
     assert_ne!(first, other);
 }
 
+/// What one longer run tells, for all tests that count what occurs in it.
+static MANY: LazyLock<String> = LazyLock::new(|| told(&["--cases", "9000", "--seed", "11"]));
+
 /// How often something occurred, by its line.
 fn count(told: &str, name: &str) -> u64 {
-    let line = told.lines().find_map(|line| line.strip_prefix(name));
-    let count = line.and_then(|count| count.trim().parse().ok());
+    // A name that goes on is another's.
+    let mut lines = told.lines().filter_map(|line| line.strip_prefix(name));
+    let count = lines.find_map(|count| count.trim().parse().ok());
     count.unwrap_or_else(|| panic!("no count of {name} in {told}"))
 }
 
@@ -40,14 +45,14 @@ fn tables_are_cut_and_a_run_without_any_fails() {
     if !oracle::AT_HAND {
         return;
     }
-    let many = told(&["--cases", "9000", "--seed", "11"]);
-    let cut = count(&many, "tables cut, all sheets accepted");
-    let sheets = count(&many, "sheets accepted");
+    let many = &*MANY;
+    let cut = count(many, "tables cut, all sheets accepted");
+    let sheets = count(many, "sheets accepted");
     assert!(cut > 100 && sheets > 10 * cut, "{many}");
-    assert!(count(&many, "tables cut into sheets, refused ones too") > cut);
-    assert!(count(&many, "sheets, refused ones too") > sheets);
+    assert!(count(many, "tables cut into sheets, refused ones too") > cut);
+    assert!(count(many, "sheets, refused ones too") > sheets);
     for refusal in ["refusal 16", "refusal 28"] {
-        assert!(count(&many, refusal) > 0, "{many}");
+        assert!(count(many, refusal) > 0, "{many}");
     }
 
     let output = run(&["--cases", "10"]);
@@ -71,18 +76,18 @@ fn careful_tables_are_judged_and_a_run_without_any_fails() {
     if !oracle::AT_HAND {
         return;
     }
-    let many = told(&["--cases", "9000", "--seed", "11"]);
+    let many = &*MANY;
     for name in [
         "careful tables built",
         "careful tables cut, all sheets accepted",
         "careful steps of growth",
     ] {
-        assert!(count(&many, name) > 100, "{many}");
+        assert!(count(many, name) > 100, "{many}");
     }
-    let split = count(&many, "in these: sections that the original splits");
-    let kept = count(&many, "in these: split by the careful rule, too");
-    let whole = count(&many, "in these: left whole by it");
-    let above = count(&many, "in these: of a ratio above 1");
+    let split = count(many, "in these: sections that the original splits");
+    let kept = count(many, "in these: split by the careful rule, too");
+    let whole = count(many, "in these: left whole by it");
+    let above = count(many, "in these: of a ratio above 1");
     assert_eq!(split, kept + whole);
     assert!(kept > 100 && above > 1000 && whole >= above, "{many}");
     for ratio in [
@@ -96,7 +101,7 @@ fn careful_tables_are_judged_and_a_run_without_any_fails() {
         "well above 1",
     ] {
         let name = format!("careful by itself, ratio {ratio}");
-        assert!(count(&many, &name) > 0, "{many}");
+        assert!(count(many, &name) > 0, "{many}");
     }
 
     let output = run(&["--cases", "10"]);
@@ -104,6 +109,45 @@ fn careful_tables_are_judged_and_a_run_without_any_fails() {
     for missing in [
         "no careful table was cut",
         "no careful parabola had a ratio exactly 1",
+    ] {
+        let line = format!("too few cases: {missing}\n");
+        assert!(few.contains(&line), "{few}");
+    }
+}
+
+#[test]
+fn safe_tables_are_judged_and_a_run_without_any_fails() {
+    if !oracle::AT_HAND {
+        return;
+    }
+    let many = &*MANY;
+    for (name, least) in [
+        ("safe tables built", 300),
+        ("safe tables cut, all sheets accepted", 100),
+        ("safe steps of growth", 300),
+        ("safe ones of all these without positivity", 300),
+        ("safe steps from a node of the rule's own", 30),
+        ("in safe ones: sections at zero throughout", 300),
+        ("in safe ones: parabolas split", 300),
+        ("in safe ones: that the original leaves whole", 30),
+        ("in safe ones: left whole that it splits", 100),
+        ("in safe ones: level parabolas", 300),
+        ("in safe ones: level fourth kinds", 300),
+        ("safe by itself, ratio exactly 1e-12", 5),
+        ("safe by itself, ratio exactly 1", 1),
+        ("safe by itself, fourth exactly 1e-12", 3),
+        ("safe by itself, discriminant not a number", 3),
+        ("refusal 29", 50),
+    ] {
+        assert!(count(many, name) >= least, "{name}: {many}");
+    }
+
+    let output = run(&["--cases", "10"]);
+    let few = String::from_utf8(output.stdout).expect("text");
+    for missing in [
+        "refusal 29 did not occur",
+        "none of this: safe tables cut, all sheets accepted",
+        "none of this: safe by itself, ratio exactly 1e-12",
     ] {
         let line = format!("too few cases: {missing}\n");
         assert!(few.contains(&line), "{few}");

@@ -5,8 +5,8 @@
 //! leads to as many entries as are told, that no one else uses what is written while the call lasts, and that the declaration
 //! fits the function. The first two follow from the slices' own types; the last is what the tests against the archive run.
 
+use crate::ConvexMonotone;
 use crate::lent::{Buffers, Curve, Previous, Seam, Sheet};
-use crate::{ConvexMonotone, Split};
 
 // A count is 64 bits on the other side.
 #[cfg(not(target_pointer_width = "64"))]
@@ -43,7 +43,7 @@ pub fn build(
             method.quadraticity,
             method.monotonicity,
             method.force_positive,
-            method.split == Split::Careful,
+            method.split.number(),
             hold,
             seam.is_some(),
             count,
@@ -92,7 +92,7 @@ pub fn grow(
             method.quadraticity,
             method.monotonicity,
             method.force_positive,
-            method.split == Split::Careful,
+            method.split.number(),
             localisation,
             final_size,
             grown,
@@ -134,7 +134,7 @@ pub fn sheet(
             method.quadraticity,
             method.monotonicity,
             method.force_positive,
-            method.split == Split::Careful,
+            method.split.number(),
             sheet.left.is_some(),
             sheet.left.unwrap_or(0.0),
             sheet.right.is_some(),
@@ -172,7 +172,7 @@ pub fn build_in_sheets(
             method.quadraticity,
             method.monotonicity,
             method.force_positive,
-            method.split == Split::Careful,
+            method.split.number(),
             cuts.as_ptr(),
             cuts.len(),
             buffers.nodes.as_mut_ptr(),
@@ -322,7 +322,9 @@ kinds! {
     convex_monotone3: havgrunel_convex_monotone3(x_prev, x_next, g_prev, g_next, f_average, eta3, prev_primitive);
     convex_monotone4: havgrunel_convex_monotone4(x_prev, x_next, g_prev, g_next, f_average, eta4, prev_primitive);
     convex_monotone4_min: havgrunel_convex_monotone4_min(x_prev, x_next, g_prev, g_next, f_average, eta4, prev_primitive);
+    convex_monotone4_min_safe: havgrunel_convex_monotone4_min_safe(x_prev, x_next, g_prev, g_next, f_average, eta4, prev_primitive);
     quadratic: havgrunel_quadratic(x_prev, x_next, f_prev, f_next, f_average, prev_primitive);
     quadratic_min: havgrunel_quadratic_min(x_prev, x_next, f_prev, f_next, f_average, prev_primitive);
     quadratic_min_careful: havgrunel_quadratic_min_careful(x_prev, x_next, f_prev, f_next, f_average, prev_primitive);
+    quadratic_min_safe: havgrunel_quadratic_min_safe(x_prev, x_next, f_prev, f_next, f_average, prev_primitive);
 }

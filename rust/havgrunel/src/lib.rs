@@ -18,8 +18,8 @@
 //! A long table may be built in sheets, and gives the very same curve: see [`ConvexMonotone::interpolate_in_sheets`] and
 //! [`ConvexMonotone::sheet`].
 //!
-//! Where prices are held above zero, [`Split`] says when a period may get a stretch of zero: by the original's rule, or only
-//! where the period then keeps its average.
+//! Where prices are held above zero, [`Split`] says when a period may get a stretch of zero: by the original's rule, only
+//! where the period then keeps its average, or such that no period falls below zero and none loses its average.
 //!
 //! [`ConvexMonotone`] and [`ConvexMonotoneInterpolation`] have the names and methods of the module that this library takes the place
 //! of, and so have the traits. [`lent`] has the same calls over the caller's own buffers, with nothing allocated. [`Record`]

@@ -6,19 +6,36 @@ use crate::{ConvexMonotoneInterpolation, Refusal, ffi};
 /// When a parabola is split, where prices are held above zero. Split, a period has two arms of a parabola that touches zero, and a
 /// stretch of zero between them: so a month that is very cheap beside its neighbours stays at zero instead of falling below it.
 ///
-/// The two differ in periods whose parabola stays above zero unsplit, which mostly fall or rise steadily at quadraticity 0, and in
-/// periods that average zero or less. They agree in every node and refusal. Without positivity nothing is split, and they are the
-/// same.
+/// The first two differ in periods whose parabola stays above zero unsplit, which mostly fall or rise steadily at quadraticity 0,
+/// and in periods that average zero or less. They agree in every node and refusal; so does the third, but for the one refusal that
+/// it adds. Without positivity nothing is split, and all three are the same.
 #[derive(Clone, Copy, Debug, PartialEq, Eq, Default)]
 pub enum Split {
     /// The rule of the original, bit for bit. Its test is not exact: it also splits periods that stay well above zero, and these then
     /// hold less than they traded at.
     #[default]
-    Original,
+    Original = 0,
     /// Only where the original splits and the two arms together are no longer than the period, so that a split parabola keeps the
     /// period's average but for rounding. How long they are is a ratio, of the average to the one at which a parabola with the same
     /// ends touches zero: it must be above 0 and at most 1.
-    Careful,
+    Careful = 1,
+    /// For a strip that must neither fall below zero nor lose an average. As the careful rule, but its tests also hold where rounding
+    /// lets the original's fail, as beside an end node of exactly 0. A period that traded at 0 is 0 throughout, and one that traded
+    /// at next to nothing beside its neighbours is level at its average.
+    ///
+    /// Every average from the second on must be 0 or above: a table with one below 0 is refused by
+    /// [`AverageBelowZero`](Refusal::AverageBelowZero), number 29. Over millions of strips with the monotonicity up to 0.99 and the
+    /// largest average from 0.001 to 1e153, no price was below 0 by more than 1e-12 of the largest average, and no period off its
+    /// own by more than 1e-11 of it, beside the rounding of the running total. With the monotonicity nearer to 1 more of an average
+    /// is lost by whatever rule.
+    Safe = 2,
+}
+
+impl Split {
+    /// The number by which the library knows it.
+    pub(crate) fn number(self) -> u8 {
+        self as u8
+    }
 }
 
 /// The method with its settings: how much of each section is a parabola, how monotone the rest is, and whether prices are held
@@ -43,7 +60,7 @@ impl ConvexMonotone {
         }
     }
 
-    /// The same settings, splitting by this rule. Curves of both rules are asked alike, and a curve may grow from one of the other
+    /// The same settings, splitting by this rule. Curves of all rules are asked alike, and a curve may grow from one of another
     /// rule; but sheets of one table must all have the same.
     ///
     /// Three falling months, of which the second traded at 3. By the original's rule it is split, although it goes from 4 to 2, and

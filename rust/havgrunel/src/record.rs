@@ -54,6 +54,8 @@ impl Record {
         convex_monotone4(x_prev, x_next, g_prev, g_next, f_average, eta4, prev_primitive);
         /// The same, split where the two would meet at zero or below.
         convex_monotone4_min(x_prev, x_next, g_prev, g_next, f_average, eta4, prev_primitive);
+        /// The same by the rule of [`Split::Safe`]: level at the average where the arms would be squeezed to next to nothing.
+        convex_monotone4_min_safe(x_prev, x_next, g_prev, g_next, f_average, eta4, prev_primitive);
         /// The parabola through two nodes with the average.
         quadratic(x_prev, x_next, f_prev, f_next, f_average, prev_primitive);
         /// The same, split where both tests of the method's rule pass, which is so for some that stay above zero, too.
@@ -61,6 +63,9 @@ impl Record {
         /// The same by the rule of [`Split::Careful`]: split only where the rule above does and the section is then no longer
         /// than its period.
         quadratic_min_careful(x_prev, x_next, f_prev, f_next, f_average, prev_primitive);
+        /// The same by the rule of [`Split::Safe`]: split wherever it would fall below zero between its nodes, and level at the
+        /// average where the arms would be squeezed to next to nothing.
+        quadratic_min_safe(x_prev, x_next, f_prev, f_next, f_average, prev_primitive);
     }
 
     /// So much of a quadratic section, and the rest of 1 of a convex monotone one. Refused by 15 where either is no such

@@ -1,4 +1,4 @@
-//! The two rules of when a parabola is split: the original's, which old callers get unasked, and the careful one.
+//! The rules of when a parabola is split: the original's, which old callers get unasked, the careful one and the safe one.
 
 mod drawn;
 

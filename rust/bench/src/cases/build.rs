@@ -1,6 +1,6 @@
 //! A table built into a curve. The original copies the table and allocates a box for each part of each section; that, and giving
-//! all of it back, is part of every use of it and is measured. A careful build has the library's side alone, since the original
-//! has no such mode.
+//! all of it back, is part of every use of it and is measured. A careful or a safe build has the library's side alone, since
+//! the original has no such mode; the library's row in the original's mode stands beside it.
 
 use std::hint::black_box;
 
@@ -29,9 +29,10 @@ fn check(settings: &Settings, tables: &[Table], room: &mut Room) {
 }
 
 /// What a row's name says of it: positivity, and the rule by which it splits.
-const MODES: [(&str, bool, Split); 3] = [
+const MODES: [(&str, bool, Split); 4] = [
     ("positive", true, Split::Original),
     ("positive careful", true, Split::Careful),
+    ("positive safe", true, Split::Safe),
     ("free", false, Split::Original),
 ];
 

@@ -1,10 +1,12 @@
 //! What the careful mode is for: strips of months that the original splits although they stay above zero, and parabolas whose ratio
 //! lies at an edge of the rule.
 
+use havgrunel::Split;
 use oracle::answers::rng::Rng;
 use oracle::{Convex, Quadratic, Recipe, Settings};
 
 use super::growing::grown;
+use super::safe;
 use super::section::single;
 use super::sheets::cut;
 use super::tables::spoil;
@@ -12,18 +14,22 @@ use super::{LEAST, SHARES, index, queries, room};
 use crate::careful::touching;
 use crate::case::{Case, Table};
 
-/// The case in the careful mode. Of a table that grows, some steps stay in the original's.
-pub fn set(rng: &mut Rng, mut case: Case) -> Case {
+/// The case in the careful or the safe mode. Of a table that grows, some steps are in another.
+pub fn set(rng: &mut Rng, mut case: Case, split: Split) -> Case {
     match &mut case {
-        Case::Build(table, ..) => table.careful = true,
+        Case::Build(table, ..) => table.split = split,
         Case::Growth { steps, .. } => {
             for step in steps {
-                step.careful = !rng.chance(8);
+                step.split = match split {
+                    Split::Safe => safe::step(rng),
+                    _ if rng.chance(8) => Split::Original,
+                    _ => split,
+                };
             }
         }
-        Case::Reading(reading) => reading.table.careful = true,
-        Case::Sheets(sheets) => sheets.table.careful = true,
-        Case::Section(single) => single.careful = true,
+        Case::Reading(reading) => reading.table.split = split,
+        Case::Sheets(sheets) => sheets.table.split = split,
+        Case::Section(single) => single.split = split,
         // A record says by itself whether it is split.
         Case::Record(..) => {}
     }
@@ -31,7 +37,7 @@ pub fn set(rng: &mut Rng, mut case: Case) -> Case {
 }
 
 /// Months that fall or rise all along, that turn, and cheap ones between dear ones, which are split for good.
-fn prices(rng: &mut Rng, points: usize) -> Vec<f64> {
+pub fn prices(rng: &mut Rng, points: usize) -> Vec<f64> {
     let style = rng.below(6);
     let level = rng.between(5.0, 60.0);
     let step = rng.between(-1.0, 1.0) * level / points as f64;
@@ -51,9 +57,8 @@ fn prices(rng: &mut Rng, points: usize) -> Vec<f64> {
     (0..points).map(&mut next).collect()
 }
 
-/// A strip of months with positivity, at quadraticity 0 in most cases: whole, in sheets, or growing.
-pub fn strip(rng: &mut Rng) -> Case {
-    let points = 3 + index(rng, 24);
+/// The knots of a strip of months.
+pub fn months(rng: &mut Rng, points: usize) -> Vec<f64> {
     let year = rng.pick(&[1.0, 30.0, 365.0]);
     let mut day = rng.whole(-40, 40);
     let mut x = Vec::with_capacity(points);
@@ -61,12 +66,25 @@ pub fn strip(rng: &mut Rng) -> Case {
         x.push(day / year);
         day += rng.pick(&[28.0, 30.0, 30.0, 30.0, 31.0, 31.0]);
     }
+    x
+}
+
+/// A strip of months with positivity, at quadraticity 0 in most cases.
+pub fn strip(rng: &mut Rng) -> Case {
+    let points = 3 + index(rng, 24);
+    let x = months(rng, points);
     let y = prices(rng, points);
     let settings = Settings {
         quadraticity: rng.pick(&[0.0, 0.0, 0.0, 0.0, 0.3, 1.0, -0.0]),
         monotonicity: rng.pick(&SHARES),
         positivity: !rng.chance(16),
     };
+    laid(rng, x, y, settings, Split::Careful)
+}
+
+/// A strip in a mode: whole, in sheets, or growing.
+pub fn laid(rng: &mut Rng, x: Vec<f64>, y: Vec<f64>, settings: Settings, split: Split) -> Case {
+    let points = x.len();
     if rng.chance(4) {
         let first = 2 + index(rng, points - 1);
         return grown(rng, x, y, settings, first);
@@ -74,7 +92,7 @@ pub fn strip(rng: &mut Rng) -> Case {
     let mut room = room(rng);
     let mut table = Table {
         settings,
-        careful: true,
+        split,
         hold: false,
         seam: None,
         x,

@@ -1,6 +1,6 @@
 //! Tables that grow by a point at a time, with steps that go wrong.
 
-use havgrunel::{MOST_POINTS, SLOTS};
+use havgrunel::{MOST_POINTS, SLOTS, Split};
 use oracle::Settings;
 use oracle::answers::rng::Rng;
 
@@ -49,7 +49,7 @@ pub fn grown(rng: &mut Rng, x: Vec<f64>, y: Vec<f64>, settings: Settings, first:
             knots: points,
             averages: points,
             settings,
-            careful: false,
+            split: Split::Original,
             localisation: first - 1,
             final_size,
             previous: Previous::Last,

@@ -3,11 +3,12 @@
 mod careful;
 mod growing;
 mod reading;
+mod safe;
 mod section;
 mod sheets;
 mod tables;
 
-use havgrunel::MOST_POINTS;
+use havgrunel::{MOST_POINTS, Split};
 use oracle::answers::rng::Rng;
 use oracle::{Settings, legal_tags};
 
@@ -78,10 +79,10 @@ pub fn rng(seed: u64, number: u64) -> Rng {
 }
 
 /// The sorts of case come round by their numbers. Their count is odd, so that each of two threads meets all.
-const ROUND: u64 = 21;
+const ROUND: u64 = 23;
 
-/// One round of so many is built in the careful mode.
-const CAREFUL: u64 = 4;
+/// Of so many rounds one is built in the careful mode and one in the safe mode.
+const MODES: u64 = 4;
 
 pub fn case(seed: u64, number: u64) -> Case {
     let rng = &mut rng(seed, number);
@@ -95,13 +96,19 @@ pub fn case(seed: u64, number: u64) -> Case {
         16 => tables::faulty(rng),
         17 | 18 => sheets::sheets(rng),
         19 => careful::strip(rng),
-        _ => careful::parabola(rng),
+        20 => careful::parabola(rng),
+        21 => safe::strip(rng),
+        _ => safe::section(rng),
     };
-    // The last two sorts are about that mode alone.
-    if sort >= 19 || (number / ROUND).is_multiple_of(CAREFUL) {
-        careful::set(rng, case)
-    } else {
-        case
+    // The last four sorts are about one mode alone.
+    match (sort, number / ROUND % MODES) {
+        (21.., _) => careful::set(rng, case, Split::Safe),
+        (19.., _) | (_, 0) => careful::set(rng, case, Split::Careful),
+        (_, 2) => {
+            let case = safe::raised(rng, case);
+            careful::set(rng, case, Split::Safe)
+        }
+        _ => case,
     }
 }
 

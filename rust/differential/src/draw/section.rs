@@ -1,6 +1,6 @@
 //! Sections by themselves: of every kind from its arguments, and from records of any numbers.
 
-use havgrunel::SLOTS;
+use havgrunel::{SLOTS, Split};
 use oracle::answers::rng::Rng;
 use oracle::{Convex, Quadratic, Recipe, Record};
 
@@ -78,7 +78,7 @@ pub fn single(rng: &mut Rng, recipe: Recipe, x_prev: f64, x_next: f64) -> Case {
     let lent = rng.pick(&[SLOTS, SLOTS, SLOTS, SLOTS, SLOTS, SLOTS + 3, SLOTS - 1, 0]);
     Case::Section(Single {
         recipe,
-        careful: false,
+        split: Split::Original,
         lent,
         asked: record_queries(rng, &record, x_prev, x_next),
     })

@@ -1,6 +1,6 @@
 //! Tables of every temper, sound and spoiled.
 
-use havgrunel::MOST_POINTS;
+use havgrunel::{MOST_POINTS, Split};
 use oracle::Seam;
 use oracle::answers::rng::Rng;
 
@@ -197,7 +197,7 @@ pub fn table(rng: &mut Rng, points: usize) -> Table {
     });
     Table {
         settings: settings(rng),
-        careful: false,
+        split: Split::Original,
         hold: rng.chance(4),
         seam,
         x,

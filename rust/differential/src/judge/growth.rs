@@ -2,13 +2,15 @@
 
 use havgrunel::lent::Previous as Lending;
 use havgrunel::{MOST_POINTS, SLOTS, ffi};
+use oracle::words::same;
 
 use super::{Agreed, Judge, Mismatch, askable, built, due, method, record_at, same_number};
 use crate::case::{Damage, Previous, Step};
-use crate::expected::Curve;
+use crate::counts::Way;
+use crate::expected::{Curve, Rule};
 
-/// The curve that a step of growth can go on from, as each side has it. The original's is of its own mode, since growth takes
-/// nothing over that depends on the mode.
+/// The curve that a step of growth can go on from, as each side has it. The original's is of its own mode: growth takes over the node
+/// on which the last kept section ends and no more, and only a safe section can end on another than the original's.
 struct Kept {
     curve: oracle::Curve,
     tags: Vec<u16>,
@@ -48,16 +50,23 @@ impl Judge {
                 (None, judged.map_err(oracle::Refusal::number))
             }
             (Previous::Last, Some(kept)) => {
-                let localisation = askable(step.localisation);
-                let from = Some(&kept.curve);
-                let judged = oracle::grow(settings, x, y, localisation, from, step.final_size);
+                let seam = kept.seam()?;
+                let judged = if first || same_seam(seam, kept.curve.seam()) {
+                    let localisation = askable(step.localisation);
+                    let from = Some(&kept.curve);
+                    let judged = oracle::grow(settings, x, y, localisation, from, step.final_size);
+                    judged.map_err(oracle::Refusal::number)
+                } else {
+                    self.counts.safe.seams += 1;
+                    built(settings, x, y, held, seam)
+                };
                 let lending = Lending {
                     sections: kept.sections,
                     held: kept.held,
                     tags: &kept.tags,
                     slots: &kept.slots,
                 };
-                (Some(lending), judged.map_err(oracle::Refusal::number))
+                (Some(lending), judged)
             }
             (Previous::Damaged(damage), kept) => {
                 if let Some(kept) = kept {
@@ -68,7 +77,7 @@ impl Judge {
                 let seam = if first {
                     Ok(None)
                 } else {
-                    seam(damage, &tags, &slots)
+                    seam(damage.sections, damage.held, &tags, &slots)
                 };
                 let judged = seam.and_then(|seam| built(settings, x, y, held, seam));
                 let lending = Lending {
@@ -86,7 +95,7 @@ impl Judge {
         let number = ffi::grow(
             x,
             y,
-            method(settings, step.careful),
+            method(settings, step.split),
             step.localisation,
             step.final_size,
             previous,
@@ -94,6 +103,8 @@ impl Judge {
             sections,
             tail,
         );
+        let rule = self.rule(step.split, settings.positivity);
+        let judged = Rule::due(rule, y, judged);
         let due = due(&judged, points, self.lent.short(points));
         self.counts.number(number);
         same_number("a step's refusal", number, due)?;
@@ -104,17 +115,14 @@ impl Judge {
         // The seam is known from the previous curve, so the nodes can be asked of a build.
         let seam = match (&step.previous, kept.as_ref()) {
             _ if first => None,
-            (Previous::Damaged(damage), _) => {
-                seam(damage, &tags, &slots).expect("a step that was not refused")
-            }
-            (_, kept) => kept.and_then(|kept| kept.curve.seam()),
+            (Previous::Damaged(damage), _) => seam(damage.sections, damage.held, &tags, &slots)
+                .expect("a step that was not refused"),
+            (Previous::Last, Some(kept)) => kept.seam()?,
+            _ => None,
         };
         let nodes = oracle::nodes(settings, x, y, seam).expect("a table that grew has nodes");
-        let curve = Curve::new(curve, x, y, self.rule(step.careful));
-        if let Some(splits) = curve.splits() {
-            self.counts.careful_steps += 1;
-            self.counts.splits(splits);
-        }
+        let curve = Curve::new(curve, x, y, rule);
+        self.counts.made(Way::Grown, step.split, curve.seen());
         self.same_curve(x, &curve, &nodes)?;
         if curve.held() != held {
             let told = format!("the original says {}", curve.held());
@@ -147,16 +155,38 @@ fn damaged(damage: &Damage, tags: &mut Vec<u16>, slots: &mut Vec<f64>) {
     }
 }
 
+impl Kept {
+    /// What growth takes over from it.
+    fn seam(&self) -> Result<Option<oracle::Seam>, Mismatch> {
+        seam(self.sections, self.held, &self.tags, &self.slots).map_err(|number| {
+            let told = format!("refusal {number} is due of a curve that was built");
+            Mismatch::new("a seam", told)
+        })
+    }
+}
+
+fn same_seam(one: Option<oracle::Seam>, other: Option<oracle::Seam>) -> bool {
+    match (one, other) {
+        (Some(one), Some(other)) => one.count == other.count && same(one.f_next, other.f_next),
+        (None, None) => true,
+        _ => false,
+    }
+}
+
 /// What growth takes over from a curve that is handed in so.
-fn seam(damage: &Damage, tags: &[u16], slots: &[f64]) -> Result<Option<oracle::Seam>, u8> {
-    let sections = damage.sections;
+fn seam(
+    sections: usize,
+    held: bool,
+    tags: &[u16],
+    slots: &[f64],
+) -> Result<Option<oracle::Seam>, u8> {
     if sections == 0 {
         return Err(9);
     }
     if sections >= MOST_POINTS || tags.len() < sections || slots.len() < SLOTS * sections {
         return Err(15);
     }
-    let count = sections - usize::from(damage.held);
+    let count = sections - usize::from(held);
     if count == 0 {
         return Ok(None);
     }

@@ -1,8 +1,8 @@
 //! Both sides are asked, and every number is held against the other's.
 //!
 //! What the original can't be asked is judged by the document: more points than the library takes, short buffers, records that are
-//! not legal, and counts of the largest number, where the original's own sum overflows. The original has no careful mode: there its
-//! parabolas that may be split are made anew, by the document's rule.
+//! not legal, and counts of the largest number, where the original's own sum overflows. The original has neither a careful nor a safe
+//! mode: there its sections are made anew that the mode's rule is about, by the rule as it is written.
 
 mod asking;
 mod growth;
@@ -16,11 +16,11 @@ use havgrunel::{ConvexMonotone, MOST_POINTS, SLOTS, Split, ffi};
 use oracle::words::{bits, same};
 use oracle::{Record, Settings};
 
-use crate::careful::{self, Rule};
 use crate::case::{Case, Queries, Room, Table};
-use crate::counts::Counts;
-use crate::expected::Curve;
+use crate::counts::{Counts, Way};
+use crate::expected::{Curve, Rule};
 use crate::lent::Lent;
+use crate::{careful, safe};
 use asking::{breaks, query};
 
 /// A number that is not the other side's.
@@ -69,17 +69,16 @@ fn same_float(part: &'static str, what: impl FnOnce() -> String, mine: f64, othe
     Err(Mismatch::new(part, told))
 }
 
-fn method(settings: &Settings, careful: bool) -> ConvexMonotone {
+fn method(settings: &Settings, split: Split) -> ConvexMonotone {
     let method = ConvexMonotone::new(
         settings.quadraticity,
         settings.monotonicity,
         settings.positivity,
     );
     // Cases of the original's mode are built as by callers that know of no other.
-    if careful {
-        method.with_split(Split::Careful)
-    } else {
-        method
+    match split {
+        Split::Original => method,
+        split => method.with_split(split),
     }
 }
 
@@ -113,29 +112,50 @@ fn due<T>(judged: &Result<T, u8>, points: usize, short: bool) -> u8 {
 pub struct Judge {
     pub counts: Counts,
     lent: Lent,
-    rule: Rule,
+    careful: careful::Rule,
+    safe: safe::Rule,
 }
 
 impl Default for Judge {
-    /// One that judges the careful mode by the document's rule.
+    /// One that judges each mode by its own rule.
     fn default() -> Judge {
-        Judge::by(careful::in_period)
+        Judge {
+            counts: Counts::default(),
+            lent: Lent::default(),
+            careful: careful::in_period,
+            safe: safe::RULE,
+        }
     }
 }
 
 impl Judge {
     /// One that judges the careful mode by this rule.
-    pub fn by(rule: Rule) -> Judge {
+    pub fn by(careful: careful::Rule) -> Judge {
         Judge {
-            counts: Counts::default(),
-            lent: Lent::default(),
-            rule,
+            careful,
+            ..Judge::default()
         }
     }
 
-    /// The rule that is due in a mode; none where it is the original's own.
-    fn rule(&self, careful: bool) -> Option<Rule> {
-        careful.then_some(self.rule)
+    /// One that judges the safe mode by this rule.
+    pub fn safely_by(safe: safe::Rule) -> Judge {
+        Judge {
+            safe,
+            ..Judge::default()
+        }
+    }
+
+    /// The rule that is due in a mode; none where it is the original's own. Without positivity the safe mode is the original's.
+    fn rule(&self, split: Split, positivity: bool) -> Option<Rule> {
+        match split {
+            Split::Careful => Some(Rule::Careful(self.careful)),
+            Split::Safe if positivity => Some(Rule::Safe(self.safe)),
+            Split::Original | Split::Safe => None,
+        }
+    }
+
+    fn table_rule(&self, table: &Table) -> Option<Rule> {
+        self.rule(table.split, table.settings.positivity)
     }
 
     pub fn case(&mut self, case: &Case) -> Agreed {
@@ -159,7 +179,7 @@ impl Judge {
             count: seam.count,
             node: seam.f_next,
         });
-        let method = method(&table.settings, table.careful);
+        let method = method(&table.settings, table.split);
         let (buffers, sections, tail) = self.lent.parts();
         ffi::build(
             &table.x, &table.y, method, table.hold, seam, buffers, sections, tail,
@@ -179,7 +199,9 @@ impl Judge {
             }
         });
         let Table { settings, hold, .. } = table;
+        let rule = self.table_rule(table);
         let judged = built(settings, &table.x, &table.y, *hold, seam);
+        let judged = Rule::due(rule, &table.y, judged);
         let due = due(&judged, points, self.lent.short(points));
         self.counts.number(number);
         same_number("a build's refusal", number, due)?;
@@ -192,11 +214,8 @@ impl Judge {
         };
         let nodes = oracle::nodes(settings, &table.x, &table.y, seam);
         let nodes = nodes.expect("a table that builds has nodes");
-        let curve = Curve::new(curve, &table.x, &table.y, self.rule(table.careful));
-        if let Some(splits) = curve.splits() {
-            self.counts.careful_builds += 1;
-            self.counts.splits(splits);
-        }
+        let curve = Curve::new(curve, &table.x, &table.y, rule);
+        self.counts.made(Way::Built, table.split, curve.seen());
         self.same_curve(&table.x, &curve, &nodes)?;
         self.ask(&table.x, *hold, curve, queries)?;
         Ok(())

@@ -6,21 +6,23 @@ use oracle::Recipe;
 
 use super::{Agreed, Judge, Mismatch, breaks, built, due, query, record_at, same_number, tail};
 use crate::case::{Reading, Room};
-use crate::expected;
+use crate::expected::{self, Rule};
 use crate::lent::{is_old, old};
 
 impl Judge {
     pub(super) fn reading(&mut self, reading: &Reading) -> Agreed {
         let table = &reading.table;
         let number = self.lay(table, &Room::default());
+        let rule = self.table_rule(table);
         let judged = built(&table.settings, &table.x, &table.y, table.hold, None);
+        let judged = Rule::due(rule, &table.y, judged);
         let points = table.x.len();
         let due = due(&judged, points, false);
         same_number("a build's refusal", number, due)?;
         let (false, Ok(built)) = (due != 0, judged) else {
             return Ok(());
         };
-        let built = expected::Curve::new(built, &table.x, &table.y, self.rule(table.careful));
+        let built = expected::Curve::new(built, &table.x, &table.y, rule);
         let breaks = if reading.queries.breaks {
             breaks(&built)
         } else {

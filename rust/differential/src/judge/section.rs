@@ -1,6 +1,6 @@
 //! Sections by themselves, from their arguments and from their records.
 
-use havgrunel::{SLOTS, ffi};
+use havgrunel::{SLOTS, Split, ffi};
 use oracle::{Convex, Quadratic, Recipe, Record};
 
 use super::{Agreed, Judge, Mismatch, same_answers, same_number, same_record};
@@ -11,13 +11,13 @@ use crate::lent::{is_old, old};
 impl Judge {
     pub(super) fn section(&mut self, single: &Single) -> Agreed {
         let (recipe, lent) = (&single.recipe, single.lent);
-        let judged = Section::made(recipe, self.rule(single.careful));
+        let judged = Section::made(recipe, self.rule(single.split, true));
         let record = judged.record();
         self.counts.sections += 1;
         self.counts.single(record.tag);
         let mut tag = 0xa5c3;
         let mut slots: Vec<f64> = (0..lent).map(old).collect();
-        let number = made(recipe, single.careful, &mut tag, &mut slots);
+        let number = made(recipe, single.split, &mut tag, &mut slots);
         let due = if lent < SLOTS { 11 } else { 0 };
         self.counts.number(number);
         same_number("a section's refusal", number, due)?;
@@ -37,8 +37,10 @@ impl Judge {
                 )),
             };
         }
-        if let Some(ratio) = judged.ratio().filter(|_| single.careful) {
-            self.counts.ratio(ratio);
+        match single.split {
+            Split::Original => {}
+            Split::Careful => judged.ratio().map_or((), |ratio| self.counts.ratio(ratio)),
+            Split::Safe => self.counts.safe.single(recipe, judged.other_ratio()),
         }
         same_record(tag, &slots[..SLOTS], &record, || "the section".into())?;
         self.section_asked(tag, &slots[..SLOTS], &judged, &single.asked)
@@ -105,39 +107,47 @@ impl Judge {
     }
 }
 
-fn quadratic_made(part: &Quadratic, careful: bool, tag: &mut u16, slots: &mut [f64]) -> u8 {
+fn quadratic_made(part: &Quadratic, split: Split, tag: &mut u16, slots: &mut [f64]) -> u8 {
     let &[a, b, c, d, e, f] = part.args();
+    let min = match split {
+        Split::Original => ffi::quadratic_min,
+        Split::Careful => ffi::quadratic_min_careful,
+        Split::Safe => ffi::quadratic_min_safe,
+    };
     match part {
         Quadratic::Plain(_) => ffi::quadratic(a, b, c, d, e, f, tag, slots),
-        Quadratic::Min(_) if careful => ffi::quadratic_min_careful(a, b, c, d, e, f, tag, slots),
-        Quadratic::Min(_) => ffi::quadratic_min(a, b, c, d, e, f, tag, slots),
+        Quadratic::Min(_) => min(a, b, c, d, e, f, tag, slots),
     }
 }
 
-fn convex_made(part: &Convex, tag: &mut u16, slots: &mut [f64]) -> u8 {
+fn convex_made(part: &Convex, split: Split, tag: &mut u16, slots: &mut [f64]) -> u8 {
     let &[a, b, c, d, e, f, g] = part.args();
+    let min = match split {
+        Split::Original | Split::Careful => ffi::convex_monotone4_min,
+        Split::Safe => ffi::convex_monotone4_min_safe,
+    };
     match part {
         Convex::Two(_) => ffi::convex_monotone2(a, b, c, d, e, f, g, tag, slots),
         Convex::Three(_) => ffi::convex_monotone3(a, b, c, d, e, f, g, tag, slots),
         Convex::Four(_) => ffi::convex_monotone4(a, b, c, d, e, f, g, tag, slots),
-        Convex::FourMin(_) => ffi::convex_monotone4_min(a, b, c, d, e, f, g, tag, slots),
+        Convex::FourMin(_) => min(a, b, c, d, e, f, g, tag, slots),
     }
 }
 
 /// The library's section. A combination is put together from two records, as the header has it.
-fn made(recipe: &Recipe, careful: bool, tag: &mut u16, slots: &mut [f64]) -> u8 {
+fn made(recipe: &Recipe, split: Split, tag: &mut u16, slots: &mut [f64]) -> u8 {
     match recipe {
         &Recipe::Constant([a, b, c]) => ffi::everywhere_constant(a, b, c, tag, slots),
         &Recipe::Gradient([a, b, c, d, e]) => ffi::constant_grad(a, b, c, d, e, tag, slots),
-        Recipe::Convex(part) => convex_made(part, tag, slots),
-        Recipe::Quadratic(part) => quadratic_made(part, careful, tag, slots),
+        Recipe::Convex(part) => convex_made(part, split, tag, slots),
+        Recipe::Quadratic(part) => quadratic_made(part, split, tag, slots),
         Recipe::Combination(weight, quadratic, convex) => {
             let (mut other_tag, mut other) = (0, [0.0; SLOTS]);
-            let number = convex_made(convex, tag, slots);
+            let number = convex_made(convex, split, tag, slots);
             if number != 0 {
                 return number;
             }
-            let number = quadratic_made(quadratic, careful, &mut other_tag, &mut other);
+            let number = quadratic_made(quadratic, split, &mut other_tag, &mut other);
             *tag += other_tag;
             slots[0] = *weight;
             slots[1..13].copy_from_slice(&other[1..13]);

@@ -6,10 +6,9 @@ use havgrunel::lent::Sheet;
 use havgrunel::{MOST_POINTS, ffi};
 
 use super::{Agreed, Judge, Mismatch, built, due, method, same_float, same_number, same_tail};
-use crate::careful::Rule;
 use crate::case::Sheets;
-use crate::counts::CUTS_NOT_INNER;
-use crate::expected::Curve;
+use crate::counts::{CUTS_NOT_INNER, Way};
+use crate::expected::{Curve, Rule};
 use crate::lent::{Lent, marked, old};
 
 /// The document's number for a sheet with no given node.
@@ -35,11 +34,11 @@ struct Piece<'a> {
     due: u8,
 }
 
-/// What the original says of the whole table, with its parabolas split by the rule that is due, or its refusal by number.
+/// What the original says of the whole table, with its sections by the rule that is due, or the refusal by number.
 fn whole(case: &Sheets, rule: Option<Rule>) -> Result<Whole, u8> {
     let table = &case.table;
     let (settings, x, y) = (&table.settings, &table.x, &table.y);
-    let curve = built(settings, x, y, false, None)?;
+    let curve = Rule::due(rule, y, built(settings, x, y, false, None))?;
     let nodes = oracle::nodes(settings, x, y, None).expect("a table that builds has nodes");
     let totals = oracle::totals(settings, x, y).expect("a table that builds has totals");
     Ok(Whole {
@@ -64,7 +63,12 @@ fn entries(case: &Sheets) -> usize {
 }
 
 /// The sheets from left to right. The last one has all averages that are left, so that one too many is in a sheet too.
-fn pieces<'a>(case: &'a Sheets, whole: Option<&Whole>, lent: &Lent) -> Vec<Piece<'a>> {
+fn pieces<'a>(
+    case: &'a Sheets,
+    whole: Option<&Whole>,
+    rule: Option<Rule>,
+    lent: &Lent,
+) -> Vec<Piece<'a>> {
     let (x, y) = (&case.table.x[..], &case.table.y[..]);
     let last = x.len().saturating_sub(1);
     let mut from = 0;
@@ -88,7 +92,7 @@ fn pieces<'a>(case: &'a Sheets, whole: Option<&Whole>, lent: &Lent) -> Vec<Piece
             NO_GIVEN_NODE
         } else {
             let alone = built(&case.table.settings, x, y, false, None);
-            due(&alone, x.len(), short)
+            due(&Rule::due(rule, y, alone), x.len(), short)
         };
         let piece = Piece {
             from,
@@ -109,7 +113,8 @@ fn pieces<'a>(case: &'a Sheets, whole: Option<&Whole>, lent: &Lent) -> Vec<Piece
 impl Judge {
     pub(super) fn sheets(&mut self, case: &Sheets) -> Agreed {
         let (x, y) = (&case.table.x, &case.table.y);
-        let judged = whole(case, self.rule(case.table.careful));
+        let rule = self.table_rule(&case.table);
+        let judged = whole(case, rule);
         if let Ok(whole) = &judged {
             for &cut in &case.cuts {
                 let mine = ffi::inner_node(x[cut - 1], x[cut], x[cut + 1], y[cut], y[cut + 1]);
@@ -118,7 +123,7 @@ impl Judge {
             }
         }
         self.lent.lend(x.len(), &case.room);
-        let pieces = pieces(case, judged.as_ref().ok(), &self.lent);
+        let pieces = pieces(case, judged.as_ref().ok(), rule, &self.lent);
         let rising: Vec<usize> = (0..pieces.len()).collect();
         let cut = !case.cuts.is_empty();
         self.counts.cut += u64::from(cut);
@@ -129,11 +134,9 @@ impl Judge {
             all &= self.in_order(case, &pieces, order, &judged)?;
         }
         self.counts.cut_whole += u64::from(all);
-        if let (true, Ok(whole)) = (all, &judged)
-            && let Some(splits) = whole.curve.splits()
-        {
-            self.counts.careful_cut += 1;
-            self.counts.splits(splits);
+        if let (true, Ok(whole)) = (all, &judged) {
+            self.counts
+                .made(Way::Cut, case.table.split, whole.curve.seen());
         }
         for cuts in [&case.cuts, &case.others] {
             self.at_once(case, cuts, &judged)?;
@@ -155,7 +158,7 @@ impl Judge {
             let piece = &pieces[number];
             let mut answer: Vec<f64> = (0..entries(case)).map(old).collect();
             let (buffers, ..) = self.lent.parts();
-            let method = method(&case.table.settings, case.table.careful);
+            let method = method(&case.table.settings, case.table.split);
             let told = ffi::sheet(piece.x, piece.y, method, piece.sheet, buffers, &mut answer);
             self.counts.sheets += 1;
             self.counts.number(told);
@@ -224,7 +227,7 @@ impl Judge {
     /// Builds the table with these cuts in one call.
     fn at_once(&mut self, case: &Sheets, cuts: &[usize], judged: &Result<Whole, u8>) -> Agreed {
         let (x, y) = (&case.table.x, &case.table.y);
-        let method = method(&case.table.settings, case.table.careful);
+        let method = method(&case.table.settings, case.table.split);
         self.lent.lend(x.len(), &case.room);
         let (buffers, sections, tail) = self.lent.parts();
         let number = ffi::build_in_sheets(x, y, method, cuts, buffers, sections, tail);

@@ -1,5 +1,6 @@
 //! Simpler tables, steps of growth and readings.
 
+use havgrunel::Split;
 use oracle::Settings;
 
 use super::numbers::{rounder, rounder_lists, stretches, without};
@@ -82,9 +83,9 @@ pub fn simpler_tables(table: &Table) -> Vec<Table> {
         less.y = without(&table.y, stretch);
         all.push(less);
     }
-    if table.careful {
+    if table.split != Split::Original {
         all.push(Table {
-            careful: false,
+            split: Split::Original,
             ..table.clone()
         });
     }
@@ -134,8 +135,8 @@ fn simpler_steps(step: &Step, found: &Mismatch) -> Vec<Step> {
     if step.room != Room::default() {
         with(&|step| step.room = Room::default());
     }
-    if step.careful {
-        with(&|step| step.careful = false);
+    if step.split != Split::Original {
+        with(&|step| step.split = Split::Original);
     }
     for settings in simpler_settings(&step.settings) {
         with(&|step| step.settings = settings);

@@ -7,6 +7,8 @@ mod sheets;
 
 use std::panic::{self, AssertUnwindSafe};
 
+use havgrunel::Split;
+
 use crate::case::{Case, Room, Single};
 use crate::judge::{Judge, Mismatch};
 use curves::{simpler_growths, simpler_queries, simpler_readings, simpler_tables};
@@ -100,8 +102,8 @@ fn simpler_singles(single: &Single, found: &Mismatch) -> Vec<Single> {
     for asked in simpler_asked(&single.asked, found) {
         with(&|less| less.asked.clone_from(&asked));
     }
-    if single.careful {
-        with(&|less| less.careful = false);
+    if single.split != Split::Original {
+        with(&|less| less.split = Split::Original);
     }
     let words = recipe_words(&single.recipe);
     for (place, &word) in words.iter().enumerate() {

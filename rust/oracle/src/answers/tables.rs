@@ -164,7 +164,8 @@ pub fn queries(rng: &mut Rng, x: &[f64], turn: usize) -> Vec<(bool, f64)> {
     asked.push((true, last + rng.between(0.5, 3.0)));
     let special = [f64::NAN, f64::INFINITY, f64::NEG_INFINITY];
     let (one, other) = (special[turn % 3], special[(turn + 1) % 3]);
-    asked.extend([(turn % 2 == 0, one), (turn % 2 == 1, other)]);
+    let even = turn.is_multiple_of(2);
+    asked.extend([(even, one), (!even, other)]);
     asked
 }
 
