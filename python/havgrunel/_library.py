@@ -25,13 +25,13 @@ REPOSITORY = os.path.dirname(os.path.dirname(HERE))
 _NUMBERS = [POINTER(c_double), c_size_t]
 _TAGS = [POINTER(c_uint16), c_size_t]
 _COUNTS = [POINTER(c_size_t), c_size_t]
-_METHOD = [c_double, c_double, c_bool, c_bool]
+_METHOD = [c_double, c_double, c_bool, c_uint8]
 _TABLE = _NUMBERS + _NUMBERS + _METHOD
 _WRITTEN = _NUMBERS + _TAGS + _NUMBERS + _COUNTS + _NUMBERS
 _ASKED = _NUMBERS + _TAGS + _NUMBERS + [c_double, c_double, c_double, c_bool]
 
 # The functions of c/havgrunel.h that this package calls: what each answers, and what it takes. The last one is not called. A library from before there was
-# a careful split does not have it, and is refused by that: its builds take an argument less.
+# a safe split does not have it, and is refused by that: its builds take a bool, or nothing, where these take the number of a split.
 DECLARED: Dict[str, Tuple[Any, List[Any]]] = {
     "havgrunel_sqrt": (c_double, [c_double]),
     "havgrunel_default_quadraticity": (c_double, []),
@@ -45,7 +45,7 @@ DECLARED: Dict[str, Tuple[Any, List[Any]]] = {
     "havgrunel_values": (c_uint8, _ASKED + _NUMBERS + _NUMBERS),
     "havgrunel_primitives": (c_uint8, _ASKED + _NUMBERS + _NUMBERS),
     "havgrunel_section": (c_uint8, [c_uint16] + _NUMBERS + [c_double] + _NUMBERS),
-    "havgrunel_quadratic_min_careful": (c_uint8, [c_double] * 6 + _TAGS + _NUMBERS),
+    "havgrunel_quadratic_min_safe": (c_uint8, [c_double] * 6 + _TAGS + _NUMBERS),
 }
 
 

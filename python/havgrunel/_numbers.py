@@ -120,7 +120,7 @@ def switch(x: Any, what: str) -> bool:
 
 def word(x: Any, what: str, words: Sequence[str]) -> str:
     """One of a few words, as it is written there."""
-    meant = f"{what} is {_quoted(x)}, and {' or '.join(map(repr, words))} is meant"
+    meant = f"{what} is {_quoted(x)}, and {', '.join(map(repr, words[:-1]))} or {words[-1]!r} is meant"
     if not isinstance(x, str):
         raise TypeError(meant)
     if x not in words:

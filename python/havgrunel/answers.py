@@ -23,6 +23,9 @@ ROUNDING = 1e-7
 # What is rounded off the totals at a period's ends, as a part of them. It counts where a short period stands late in a long strip.
 BLUR = 2.0**-50
 
+# Above this monotonicity what rounding takes from an average grows to what counts as lost.
+HIGHEST = 0.99
+
 # Inner points of a period where its lowest price is looked for.
 LOOKS = 20
 
@@ -78,8 +81,8 @@ class Held:
 
 @dataclass
 class Answer:
-    """All that is answered of an order. `before` and `after` are lines that are told around the table. `careful_keeps` says that a period lost its average
-    and that with the careful split none would."""
+    """All that is answered of an order. `before` and `after` are lines that are told around the table. `keeping` is the setting with which no period
+    would lose its average, where one has lost it and there is such a setting."""
 
     order: Order
     curve: Curve
@@ -88,7 +91,7 @@ class Answer:
     before: List[str] = field(default_factory=list)
     after: List[str] = field(default_factory=list)
     not_finite: int = 0
-    careful_keeps: bool = False
+    keeping: str = ""
 
     @property
     def lost(self) -> List[Held]:
@@ -115,7 +118,11 @@ def curve_of(order: Order, method: Optional[Method] = None) -> Curve:
         return Curve(order.knots, order.averages, method, hold=bool(s["hold last period"]), extrapolate=bool(s["extrapolation"]))
     except Refused as refused:
         line = blamed(order, refused)
-        raise Stop(1, f"{order.place(line)}: refused: {refused.words} (refusal {refused.number})", placed=True) from None
+        lines = [f"{order.place(line)}: refused: {refused.words} (refusal {refused.number})"]
+        if refused.number == 29 and refused.index is not None:
+            traded = f"{period(order, refused.index)} traded at {short(order.averages[refused.index])}"
+            lines.append(f"{order.place(line)}: {traded}; 'positivity: off' is for averages below 0")
+        raise Stop(1, *lines, placed=True) from None
 
 
 def blamed(order: Order, refused: Refused) -> Optional[Union[int, str]]:
@@ -126,7 +133,7 @@ def blamed(order: Order, refused: Refused) -> Optional[Union[int, str]]:
         return order.knot_lines[4096]
     if refused.number in (5, 7) and refused.index is not None:
         return order.knot_lines[refused.index]
-    if refused.number == 6 and refused.index is not None:
+    if refused.number in (6, 29) and refused.index is not None:
         return order.average_lines[refused.index]
     return None
 
@@ -162,10 +169,11 @@ def answer(order: Order) -> Answer:
         rows = at_points(order, curve, asked) if isinstance(asked, Points) else over_rows(curve, asked)
         tables.append(Answered(asked, rows))
     found = Answer(order, curve, tables, holdings(order, curve))
-    found.careful_keeps = bool(found.lost) and careful_keeps(order)
+    found.keeping = keeping(order) if found.lost else ""
     found.before = [f"{order.place(line)}: {what}" for line, what in order.doubts] + below_averages(order)
     found.not_finite, lines = not_finite(found)
-    found.after = lines + below_prices(found)
+    below = below_prices(found)
+    found.after = lines + below + advice(found, bool(lines), bool(below))
     return found
 
 
@@ -183,10 +191,22 @@ def holdings(order: Order, curve: Curve) -> List[Held]:
     return found
 
 
-def careful_keeps(order: Order) -> bool:
-    """Whether the order has the original split, and would keep every average with the careful one."""
-    method = replace(method_of(order), split="careful")
-    return method != method_of(order) and all(one.kept for one in holdings(order, curve_of(order, method)))
+def keeping(order: Order) -> str:
+    """The setting with which the order would keep every average: another split, the safe one first, or a lower monotonicity. Nothing where there is none."""
+    curves = {f"split: {split}": curve_by(order, split) for split in ("safe", "careful")}
+    if method_of(order).monotonicity > HIGHEST:
+        curves[f"monotonicity: {HIGHEST}"] = curve_of(order, replace(method_of(order), monotonicity=HIGHEST))
+    return next((setting for setting, curve in curves.items() if curve is not None and all(one.kept for one in holdings(order, curve))), "")
+
+
+def curve_by(order: Order, split: str) -> Optional[Curve]:
+    """The curve by another split than the order's own, and nothing where that has none or is no other: without positivity all are one."""
+    if split == order.settings["split"] or not order.settings["positivity"]:
+        return None
+    try:
+        return curve_of(order, replace(method_of(order), split=split))
+    except Stop:
+        return None
 
 
 def look_inside(section: Section, gap: float, number: int, traded: float, scale: float) -> Held:
@@ -224,8 +244,8 @@ def told(lines: List[str], order: Order, what: str) -> List[str]:
 
 
 def below_averages(order: Order) -> List[str]:
-    """Averages at or below 0 with positivity on, which no curve above 0 can hold."""
-    if not order.settings["positivity"]:
+    """Averages at or below 0 with positivity on, which no curve above 0 can hold. The safe split takes 0, and is refused below it."""
+    if not order.settings["positivity"] or order.settings["split"] == "safe":
         return []
     lines = [
         f"{order.place(order.average_lines[k])}: {period(order, k)} traded at {short(average)}, and positivity is for averages above 0"
@@ -287,7 +307,7 @@ def asked_points(found: Answer) -> List[float]:
 def cause(order: Order, k: int) -> str:
     """Why a period has a price that is not finite."""
     average, s = order.averages[k], order.settings
-    if s["positivity"] and average == 0:
+    if s["positivity"] and s["split"] != "safe" and average == 0:
         return "traded at exactly 0, with positivity on"
     if s["positivity"] and average < 0:
         return "traded below 0, with positivity on"
@@ -328,3 +348,16 @@ def below_prices(found: Answer) -> List[str]:
         for k, (value, what) in sorted(lowest.items())
     ]
     return told(lines, order, "periods with a price below 0")
+
+
+def advice(found: Answer, missing: bool, below: bool) -> List[str]:
+    """A line that names the safe split where prices are missing or below 0, and with it none would be."""
+    curve = curve_by(found.order, "safe") if missing or below else None
+    if curve is None:
+        return []
+    xs = asked_points(found) + [x for inside in looks(found.order) for x in inside]
+    lowest = -ROUNDING * max(found.order.averages[1:])
+    if not all(lowest <= price < math.inf and math.isfinite(total) for price, total in zip(curve.values(xs), curve.primitives(xs))):
+        return []
+    ways = ["has a price everywhere"] * missing + ["holds all prices at 0 or above"] * below
+    return [f"{found.order.name}: 'split: safe' {' and '.join(ways)}"]

@@ -10,7 +10,7 @@ asked:
     quadraticity: 0.3            # from 0 to 1
     monotonicity: 0.7            # from 0 to 1
     positivity: on               # on or off
-    split: original              # or careful: only where it keeps the average
+    split: original              # or careful or safe: what positivity may do
     hold last period: off        # on: the last period is flat at its average
     extrapolation: off           # on: points outside the knots are answered
 
@@ -40,6 +40,12 @@ clock changes are not handled, and every day has 24 hours. An average on the
 first knot is an error, unless 'first average: not read' says that it stands
 for nothing. The case of words does not matter. From # on, at the start of a
 line or after a space, is a comment.
+
+With positivity on, a period may be split: it gets a stretch at 0. By the
+original split a period can lose its average or fall below 0, and one that
+traded at 0 may have no price. A careful split loses no average. A safe split
+loses none, holds every price at 0 or above, and takes averages of 0; it refuses
+averages below 0.
 
 'daily' tells of each day the average over it, the price at its start and the
 running total at its end; 'at' the price at a point and the running total up to
@@ -104,7 +110,7 @@ def parser_of(prog: str) -> argparse.ArgumentParser:
     instead.add_argument("--plot", metavar="SVG", help="draw the curve into this file instead ('-' is standard output)")
     instead.add_argument("--csv", metavar="FILE", help="write the table with every digit into this file instead ('-' is standard output)")
     instead.add_argument("--tsv", metavar="FILE", help="the same with tabs")
-    instead.add_argument("--bytes", metavar="FILE", help="write the order's bytes, as target/bin/curveorder takes them, into this file instead; a careful split has none")
+    instead.add_argument("--bytes", metavar="FILE", help="write the order's bytes, as target/bin/curveorder takes them, into this file instead; a careful or safe split has none")
     instead.add_argument("--exact", action="store_true", help="print each number so that it reads back as the same float")
     set_help = "a setting besides those of the text, as 'quadraticity: 0'; may be given several times"
     parser.add_argument("--set", metavar="SETTING", action="append", default=[], help=set_help)

@@ -32,8 +32,9 @@ def _default(setting: str) -> Any:
     return field(default_factory=asked)
 
 
-# When positivity splits a parabola: wherever the two tests of the original pass, or only where the period then keeps its average. The first is the default.
-SPLITS = ("original", "careful")
+# When positivity splits a parabola, each by its number in c/havgrunel.h: wherever the two tests of the original pass; only where the period then keeps its
+# average; or where it would fall below 0, whatever rounding does. The first is the default.
+SPLITS = ("original", "careful", "safe")
 
 
 @dataclass(frozen=True)
@@ -43,7 +44,8 @@ class Method:
     quadraticity -- from 0 to 1: how much of each section is a parabola
     monotonicity -- from 0 to 1: how monotone the rest is
     positivity   -- whether prices are held above zero; docs/SHAPES.md says where that fails
-    split        -- "original", or "careful": positivity then splits no parabola that would lose its average by it
+    split        -- "original"; "careful": positivity then splits no parabola that would lose its average by it; or "safe": with positivity no price is
+                    then below 0 and no average is lost, and an average below 0 is refused
     """
 
     quadraticity: float = _default("quadraticity")
@@ -332,7 +334,7 @@ class Curve:
     def __repr__(self) -> str:
         settings = f"quadraticity {self._method.quadraticity:g}, monotonicity {self._method.monotonicity:g}"
         periods = len(self._tags)
-        split = ", careful split" if self._method.split == "careful" else ""
+        split = f", {self._method.split} split" if self._method.split != SPLITS[0] else ""
         return (
             f"<Curve of {periods} period{'s' * (periods != 1)} from {self._knots[0]:g} to {self._knots[-1]:g}, {settings}, "
             f"positivity {'on' if self._method.positivity else 'off'}{split}>"
@@ -364,7 +366,7 @@ def _own(numbers: Many, what: str) -> "array[float]":
 
 
 def _table(xs: "array[float]", ys: "array[float]", method: Method) -> Tuple[Any, ...]:
-    return (*_lent(xs), *_lent(ys), method.quadraticity, method.monotonicity, method.positivity, method.split == "careful")
+    return (*_lent(xs), *_lent(ys), method.quadraticity, method.monotonicity, method.positivity, SPLITS.index(method.split))
 
 
 def _build_refusal(number: int, xs: "array[float]", ys: "array[float]", cuts: Iterable[int] = ()) -> None:
@@ -375,6 +377,7 @@ def _build_refusal(number: int, xs: "array[float]", ys: "array[float]", cuts: It
         5: (not math.isfinite(x) for x in xs),
         6: (not math.isfinite(y) for y in ys),
         7: (k > 0 and not xs[k - 1] < x for k, x in enumerate(xs)),
+        29: (k > 0 and y < 0 for k, y in enumerate(ys)),
         28: (not before < cut < len(xs) - 1 for before, cut in zip([0, *cuts], cuts)),
     }
     raise Refused(number, next((k for k, fault in enumerate(to_blame.get(number, ())) if fault), None))

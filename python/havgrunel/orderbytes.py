@@ -16,13 +16,13 @@ def points(order: Order) -> List[float]:
 
 
 def only_original(order: Order) -> None:
-    """Stops at a careful split. The bytes have no place for it and mean the original's."""
+    """Stops at another split than the original's. The bytes have no place for it and mean that one."""
     if order.settings["split"] != "original":
-        raise order.bad(order.setting_lines["split"], "an order's bytes mean the original split, and there are none for a careful one")
+        raise order.bad(order.setting_lines["split"], f"an order's bytes mean the original split, and there are none for a {order.settings['split']} one")
 
 
 def order_bytes(order: Order, asked: Sequence[float]) -> bytes:
-    """The bytes: a header of four, then 64-bit floats, the most significant byte first. Raises Stop where the split is the careful one."""
+    """The bytes: a header of four, then 64-bit floats, the most significant byte first. Raises Stop where the split is not the original one."""
     only_original(order)
     s = order.settings
     flags = bool(s["positivity"]) << 31 | bool(s["hold last period"]) << 30 | bool(s["extrapolation"]) << 29

@@ -22,6 +22,8 @@ REFUSALS: Dict[int, str] = {
     16: "a sheet needs a given node at one end at least, and this one has none",
     17: "the bytes are not a well-formed order",
     28: "a cut is not an inner knot of the table, or not above the cut before it",
+    29: "an average is below 0, and no curve at or above 0 can keep it, as the safe split promises",
+    30: "the split's number is none of 0, 1 and 2",
 }
 
 NAMES: Dict[int, str] = {
@@ -43,6 +45,8 @@ NAMES: Dict[int, str] = {
     16: "NO_GIVEN_NODE",
     17: "ORDER_MALFORMED",
     28: "CUTS_NOT_INNER",
+    29: "AVERAGE_BELOW_ZERO",
+    30: "SPLIT_UNKNOWN",
 }
 
 

@@ -106,7 +106,7 @@ def check(answer: Answer) -> List[str]:
         held = f"holds {form(one.held)}" if math.isfinite(one.held) else "has no finite total"
         lines.append(f"  {period(order, one.period)} traded at {form(one.traded)} and {held} (line {order.average_lines[one.period]})")
     if any(math.isfinite(one.held) for one in lost):
-        way = "'split: careful' avoids this" if answer.careful_keeps else "docs/SHAPES.md says how to avoid this"
+        way = f"'{answer.keeping}' avoids this" if answer.keeping else "docs/SHAPES.md says how to avoid this"
         lines.append(f"  The rows around its ends carry the difference; {way}.")
     return lines
 

@@ -104,17 +104,20 @@ class Kept(unittest.TestCase):
             ran.out.splitlines()[-4:-1],
             ["2 of 3 averages not kept:", "  0 to 1 traded at 5.0000 and holds 2.8796 (line 9)", "  1 to 2 traded at 3.0000 and holds 2.3333 (line 10)"],
         )
-        self.assertEqual(ran.out.splitlines()[-1], "  The rows around its ends carry the difference; 'split: careful' avoids this.")
+        self.assertEqual(ran.out.splitlines()[-1], "  The rows around its ends carry the difference; 'split: safe' avoids this.")
         for name in "falling-month.txt", "falling-month-careful.txt":
             self.assertEqual(run(example(name)).out.splitlines()[-1], "all 3 averages kept")
 
-    def test_the_careful_split_is_named_where_it_helps(self):
-        """Elsewhere the document is: an average below 0 is lost by either split."""
+    def test_a_setting_is_named_where_it_helps(self):
+        """The safe split; the careful one where a month traded below 0 and keeps its average all the same; a lower monotonicity where that is to blame.
+        Elsewhere the document is."""
         table = "0\n1 5\n2 3\n2.25 0.5\nat 0\n"
         below = "0\n4 38\n8 45\n12 12\n16 -18\n20 64\n24 52\nat 0\n"
         for text, last in (
-            (f"quadraticity: 0\n{table}", "'split: careful' avoids this."),
-            (f"quadraticity: 0\nhold last period: on\n{table}", "'split: careful' avoids this."),
+            (f"quadraticity: 0\n{table}", "'split: safe' avoids this."),
+            (f"quadraticity: 0\nhold last period: on\n{table}", "'split: safe' avoids this."),
+            ("quadraticity: 1\n0\n1 6\n2 -2\nat 0\n", "'split: careful' avoids this."),
+            ("split: safe\nquadraticity: 0\nmonotonicity: 0.9999999\n0\n28 30\n56 30\n87 7\nat 0\n", "'monotonicity: 0.99' avoids this."),
             (below, "docs/SHAPES.md says how to avoid this."),
             (f"split: careful\n{below}", "docs/SHAPES.md says how to avoid this."),
         ):
@@ -123,7 +126,8 @@ class Kept(unittest.TestCase):
                 self.assertEqual((ran.status, ran.out.splitlines()[-1]), (4, f"  The rows around its ends carry the difference; {last}"))
                 lines = run("--csv", "-", "-", text=text).told.splitlines()
                 self.assertEqual(lines[-1], f"standard input: The rows around its ends carry the difference; {last}")
-        self.assertEqual(run("-", text=f"quadraticity: 0\nsplit: careful\n{table}").status, 0)
+        for split in "careful", "safe":
+            self.assertEqual(run("-", text=f"quadraticity: 0\nsplit: {split}\n{table}").status, 0)
 
     def test_a_spike_in_the_last_day(self):
         """What a month lost is in the row that ends it, so that its rows still average what it traded at."""
@@ -167,11 +171,13 @@ class Told(unittest.TestCase):
         """The cheap first month: its lowest price is found, though no day is asked."""
         ran = run("-", text="0\n28 0.62\n56 59.03\n85 47.69\nat 0 28\n")
         self.assertEqual((ran.status, ran.out.splitlines()[-1]), (0, "all 3 averages kept"))
-        self.assertRegex(ran.told, r"^standard input:2: the price near [0-9.]+ is -2\.[67][0-9]+, below 0 although positivity is on\n$")
+        told = ran.told.splitlines()
+        self.assertRegex(told[0], r"^standard input:2: the price near [0-9.]+ is -2\.[67][0-9]+, below 0 although positivity is on$")
+        self.assertEqual(told[1:], ["standard input: 'split: safe' holds all prices at 0 or above"])
 
     def test_a_price_below_0_with_its_day(self):
         ran = run("-", text="2026-02-01 2026-03-01 0.62\n2026-03-01 2026-03-29 59.03\n2026-03-29 2026-04-27 47.69\ndaily\n")
-        self.assertRegex(ran.told, r"^standard input:1: the (price|average) (near|at|from) 2026-02-1[0-9]( to 2026-02-1[0-9])? is -2\.[67][0-9]+, below 0 although positivity is on\n$")
+        self.assertRegex(ran.told, r"^standard input:1: the (price|average) (near|at|from) 2026-02-1[0-9]( to 2026-02-1[0-9])? is -2\.[67][0-9]+, below 0 although positivity is on\n")
 
     def test_no_finite_price(self):
         cases = [
@@ -190,6 +196,29 @@ class Told(unittest.TestCase):
         ran = run("-", text="0\n1 2\n2 0\n3 2\nat 0.5\n")
         self.assertEqual(ran.status, 4)
         self.assertIn("no finite price at 1: 1 to 2 traded at exactly 0", ran.told)
+
+    def test_the_safe_split_is_named_where_it_helps(self):
+        """Where a price is missing or below 0 and it would not be with the safe split; not where a month traded below 0, or at monotonicity 1."""
+        name = "standard input: 'split: safe'"
+        for text, last in (
+            ("0\n1 2\n2 0\n3 2\nat 0\n", f"{name} has a price everywhere"),
+            ("split: careful\n0\n1 2\n2 0\n3 2\nat 0\n", f"{name} has a price everywhere and holds all prices at 0 or above"),
+            ("split: careful\nquadraticity: 1\n0\n1 2\n2 0\n3 2\nat 0\n", f"{name} holds all prices at 0 or above"),
+            ("0\n1 2\n2 0\n3 2\n4 -1\nat 0\n", None),
+            ("quadraticity: 0\nmonotonicity: 1\n0\n1 2\n2 1\n3 1\nat 1\n", None),
+            ("extrapolation: on\n0\n28 0.62\n56 59.03\n85 47.69\nat -3 0 90\n", f"{name} holds all prices at 0 or above"),
+        ):
+            with self.subTest(text=text):
+                told = run("-", text=text).told.splitlines()
+                self.assertEqual([line for line in told if "safe" in line], told[-1:] if last else [])
+                self.assertTrue(last is None or told[-1] == last, told)
+
+    def test_the_safe_split_has_nothing_to_tell(self):
+        for text in "0\n1 2\n2 0\n3 2\nat 0 1 1.5 2\n", "0\n28 0.62\n56 59.03\n85 47.69\nevery 1\n", "hold last period: on\n0\n1 0\n2 3\n3 -0.0\nat 3\n":
+            ran = run("-", text=f"split: safe\n{text}")
+            self.assertEqual((ran.status, ran.told, ran.out.splitlines()[-1]), (0, "", "all 3 averages kept"))
+        ran = run("-", text="split: safe\nquadraticity: 0\nmonotonicity: 1\n0\n1 2\n2 1\n3 1\nat 1\n")
+        self.assertIn("standard input:6: no finite price at 1: 1 to 2 traded as its neighbour did, at monotonicity 1\n", ran.told)
 
     def test_many_lines_are_counted(self):
         text = "".join(f"{k} {k + 1} -1\n" for k in range(30)) + "at 0\n"
@@ -215,6 +244,17 @@ class Refused(unittest.TestCase):
             with self.subTest(text=text[:60]):
                 ran = run("-", text=text)
                 self.assertEqual((ran.status, ran.out, ran.told.splitlines()[0]), (1, "", f"standard input{said}"))
+
+    def test_an_average_below_0_with_the_safe_split(self):
+        """The line of the average, in the library's words and in the desk's own. Without positivity it is answered."""
+        words = "refused: an average is below 0, and no curve at or above 0 can keep it, as the safe split promises (refusal 29)"
+        ran = run("-", text="split: safe\n2026-10 3\n# cheap\n2026-11 -0.5\n2026-12 -1\ndaily\n")
+        traded = "2026-11-01 to 2026-12-01 traded at -0.5000; 'positivity: off' is for averages below 0"
+        self.assertEqual(ran, (1, "", f"standard input:4: {words}\nstandard input:4: {traded}\n"))
+        self.assertEqual(run("-", text="split: safe\npositivity: off\n2026-10 3\n2026-11 -0.5\ndaily\n").status, 0)
+        file = example("power-negative-positivity.txt")
+        ran = run("--set", "split: safe", file)
+        self.assertEqual((ran.status, ran.out, ran.told.splitlines()[0]), (1, "", f"{file}:11: {words}"))
 
     def test_an_option_that_caused_it(self):
         ran = run("--set", "quadraticity: 2", example("winter-gas.txt"))

@@ -60,6 +60,7 @@ class Statuses(InAFolder):
         for status in range(5):
             self.assertIn(f"\n  {status}  ", ran.out)
         self.assertIn("clock changes are not handled", ran.out)
+        self.assertIn("A safe split\nloses none, holds every price at 0 or above", ran.out)
         self.assertEqual([line for line in ran.out.splitlines() if len(line) > 80], [])
 
     def test_version(self):
@@ -71,12 +72,13 @@ class Tables(InAFolder):
         lines = run(WINTER).out.splitlines()
         self.assertEqual(lines[3], "day          average   price at its start   running total at its end")
 
-    def test_the_heading_tells_a_careful_split(self):
+    def test_the_heading_tells_the_split(self):
         settings = "quadraticity 0, monotonicity 0.7, positivity"
         for text, head in (
             ("", f"1 period, {settings} on"),
             ("split: original\n", f"1 period, {settings} on"),
             ("split: careful\n", f"1 period, {settings} on, careful split"),
+            ("split: safe\n", f"1 period, {settings} on, safe split"),
             ("split: Careful\npositivity: off\nhold last period: on\n", f"1 period, {settings} off, careful split, hold last period on"),
         ):
             with self.subTest(text=text):
@@ -87,6 +89,28 @@ class Tables(InAFolder):
         self.assertEqual(run("--set", "split: careful", example("falling-month-splits.txt")), run(example("falling-month-careful.txt")))
         self.assertEqual(run("--set", "split: original", example("falling-month-splits.txt")), run(example("falling-month-splits.txt")))
         self.assertEqual([row[1] for row in table_rows(run(example("falling-month-careful.txt")).out) if row[0] == "1.75"], ["2.3125"])
+
+    def test_the_safe_split_on_the_command_line(self):
+        """It answers the orders of the careful split as that one does, and what only it answers."""
+        for name in "falling-month", "summer-gas", "winter-gas":
+            careful, safe = (run("--set", f"split: {split}", example(f"{name}-splits.txt")) for split in ("careful", "safe"))
+            self.assertEqual((safe.status, safe.out, safe.told), (0, careful.out.replace("careful split", "safe split"), ""))
+        for name in "cheap-first-month", "zero-hour":
+            self.assertEqual(run("--set", "split: safe", example(f"{name}.txt")), run(example(f"{name}-safe.txt")))
+
+    def test_the_examples_of_the_safe_split(self):
+        ran = run(example("cheap-first-month-safe.txt"))
+        averages = [float(row[1]) for row in table_rows(ran.out)]
+        self.assertEqual((ran.status, ran.told, ran.out.splitlines()[-1], min(averages)), (0, "", "all 3 averages kept", 0.0))
+        self.assertAlmostEqual(sum(averages[:28]) / 28, 0.62, 4)
+        ran = run(example("zero-hour-safe.txt"))
+        self.assertEqual((ran.status, ran.told, ran.out.splitlines()[-1]), (0, "", "all 3 averages kept"))
+        self.assertEqual([row[1] for row in table_rows(ran.out)], ["2.5000", "2.1250", "1.6562", "0.0000", "0.0000", "0.0000", "1.0000", "2.1250", "2.5000"])
+        ran = run(example("free-months.txt"))
+        days = table_rows(ran.out)
+        self.assertEqual((ran.status, ran.told, ran.out.splitlines()[-1], len(days)), (0, "", "all 12 averages kept", 365))
+        self.assertEqual({row[1] for row in days if row[0][:7] in ("2027-04", "2027-05", "2027-12")}, {"0.0000"})
+        self.assertEqual(min(float(cell) for row in days for cell in row[1:]), 0.0)
 
     def test_two_tables(self):
         out = run("-", text="2026-10 3\n2026-11 4\nat 2026-10-15\ndaily\n").out
@@ -167,6 +191,12 @@ class Files(InAFolder):
         self.assertEqual(self.read("worked.order")[-8:], struct.pack(">d", 28.0))
         self.assertEqual(run("--bytes", "-", "-", text="2026-10 3\n2026-11 4\n2026-12 3\ndaily\n").told, "standard input:4: an order's bytes ask for at most 64 points, and this asks for 93\n")
         self.assertEqual(run("--bytes", "-", "-", text="".join(f"{k} {k + 1} 1\n" for k in range(200)) + "at 0\n").told, "standard input:200: an order's bytes have at most 200 knots\n")
+
+    def test_a_safe_split_has_no_bytes(self):
+        safe = self.written("safe.txt", f"split: safe\n{SHORT}")
+        said = "an order's bytes mean the original split, and there are none for a safe one"
+        self.assertEqual(run("--bytes", self.path("a.order"), safe), (2, "", f"{safe}:1: {said}\n"))
+        self.assertFalse(os.path.exists(self.path("a.order")))
 
     def test_a_careful_split_has_no_bytes(self):
         said = "an order's bytes mean the original split, and there are none for a careful one"

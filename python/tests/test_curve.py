@@ -107,10 +107,10 @@ class Building(Refusing):
             Method("0.3")
         with self.assertRaisesRegex(TypeError, "the positivity is 'off', and True or False is meant"):
             Method(positivity="off")
-        with self.assertRaisesRegex(ValueError, "^the split is 'Careful', and 'original' or 'careful' is meant$"):
+        with self.assertRaisesRegex(ValueError, "^the split is 'Careful', and 'original', 'careful' or 'safe' is meant$"):
             Method(split="Careful")
         for split in True, None, b"careful":
-            with self.assertRaisesRegex(TypeError, "^the split is .*, and 'original' or 'careful' is meant$"):
+            with self.assertRaisesRegex(TypeError, "^the split is .*, and 'original', 'careful' or 'safe' is meant$"):
                 Method(split=split)
 
 

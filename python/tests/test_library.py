@@ -10,7 +10,7 @@ import unittest
 import unittest.mock
 
 import havgrunel
-from havgrunel import _library, refusals
+from havgrunel import _library, curve, refusals
 
 PACKAGES = os.path.dirname(_library.HERE)
 TYPES = {
@@ -56,7 +56,7 @@ def header():
 class Declarations(unittest.TestCase):
     def test_they_are_the_header_s(self):
         functions = header()
-        self.assertEqual(len(functions), 25)
+        self.assertEqual(len(functions), 27)
         for name, declared in _library.DECLARED.items():
             self.assertEqual(declared, functions[name], name)
 
@@ -70,6 +70,19 @@ class Declarations(unittest.TestCase):
         self.assertEqual(int(re.search(r"#define HAVGRUNEL_SLOTS (\d+)", text)[1]), havgrunel.SLOTS)
         self.assertEqual(int(re.search(r"#define HAVGRUNEL_MOST_POINTS (\d+)", text)[1]), havgrunel.MOST_POINTS)
 
+    def test_the_splits_are_the_header_s(self):
+        found = re.findall(r"#define HAVGRUNEL_SPLIT_(\w+) (\d+)", read("c", "havgrunel.h"))
+        self.assertEqual([(name.lower(), int(number)) for name, number in found], [(split, k) for k, split in enumerate(curve.SPLITS)])
+
+    def test_a_split_of_another_number(self):
+        """The package has no such split; the library refuses it before everything else, even where nothing was lent."""
+        nothing = (None, 0)
+        for number in 3, 255:
+            told = _library.load().havgrunel_build(*nothing, *nothing, 9.0, 9.0, True, number, False, False, 0, 0.0, *nothing * 5)
+            self.assertEqual((told, havgrunel.Refused(told).name), (30, "SPLIT_UNKNOWN"))
+            self.assertEqual(str(havgrunel.Refused(told)), "the split's number is none of 0, 1 and 2 (refusal 30)")
+            self.assertEqual(_library.load().havgrunel_build_in_sheets(*nothing, *nothing, 9.0, 9.0, True, number, *nothing, *nothing * 5), 30)
+
     def test_the_refusals_are_the_header_s(self):
         found = re.findall(r"HAVGRUNEL_(\w+) = ([1-9]\d*),? */\* (.*) \*/", read("c", "havgrunel.h"))
         self.assertEqual({int(number): name for name, number, _ in found}, {k: name for k, name in refusals.NAMES.items() if k != 17})
@@ -81,8 +94,8 @@ class Declarations(unittest.TestCase):
 
 class Finding(unittest.TestCase):
     def test_a_library_that_lacks_a_function(self):
-        """One from before the careful split lacks its function. Its builds take an argument less, and must not be called."""
-        self.assertIn("havgrunel_quadratic_min_careful", _library.DECLARED)
+        """One from before the safe split lacks its function. Its builds take another argument in the split's place, and must not be called."""
+        self.assertIn("havgrunel_quadratic_min_safe", _library.DECLARED)
         with unittest.mock.patch.dict(_library.DECLARED, {"havgrunel_of_later": (ctypes.c_bool, [])}):
             with self.assertRaisesRegex(havgrunel.LibraryMissing, "is not the library of this package: it has no function havgrunel_of_later"):
                 _library._opened(_library.load()._name)

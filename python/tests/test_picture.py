@@ -90,6 +90,8 @@ class Words(unittest.TestCase):
         self.assertFalse(any("split" in text for text in texts_of(drawn("split: careful\n" + MONTHS, "split: careful\nquadraticity: 0\n" + MONTHS))))
         self.check_apart(three)
         self.check_heading_is_above(three)
+        splits = texts_of(drawn(*(f"split: {split}\n" + MONTHS for split in ("original", "careful", "safe"))))
+        self.assertTrue({"original split", "careful split", "safe split"} <= set(splits))
 
     def test_a_title_is_told_whole_where_it_is_cut(self) -> None:
         title = "word " * 300 + "end"

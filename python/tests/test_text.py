@@ -95,8 +95,8 @@ BAD = [
     ("0\nquadraticity: 1\n1 2\nat 0\n", 2, "settings come before the first knot"),
     ("positivity: on\nPOSITIVITY: off\n", 2, "'positivity' is set twice, first in line 1"),
     ("positivity: yes\n", 1, "'yes' is neither 'on' nor 'off'"),
-    ("split: on\n", 1, "'on' is neither 'original' nor 'careful'"),
-    ("split:\n", 1, "'' is neither 'original' nor 'careful'"),
+    ("split: on\n", 1, "'on' is neither 'original' nor 'careful' nor 'safe'"),
+    ("split:\n", 1, "'' is neither 'original' nor 'careful' nor 'safe'"),
     ("split: careful\n\nSplit: original\n", 3, "'split' is set twice, first in line 1"),
     ("split careful\n0\n1 2\n", 1, "'split' is a setting, and a colon stands behind it: split: careful"),
     ("0\nsplit: careful\n1 2\nat 0\n", 2, "settings come before the first knot"),
@@ -126,7 +126,7 @@ class Wrong(unittest.TestCase):
         cases = [
             ({"sets": ["convexity: 1"]}, "x: --set 'convexity: 1': there is no setting 'convexity'"),
             ({"sets": ["positivity"]}, "x: --set 'positivity': a setting is a key, a colon and a value"),
-            ({"sets": ["split: never"]}, "x: --set 'split: never': 'never' is neither 'original' nor 'careful'"),
+            ({"sets": ["split: never"]}, "x: --set 'split: never': 'never' is neither 'original' nor 'careful' nor 'safe'"),
             ({"sets": ["split: careful", "split: original"]}, "x: --set 'split: original': 'split' is set twice, first by --set 'split: careful'"),
             ({"sets": ["price: EUR"]}, "x:1: 'price' is set twice, first by --set 'price: EUR'"),
             ({"asks": ["weekly"]}, "x: --ask 'weekly': what is asked is 'daily', 'hourly', 'every STEP' or 'at POINT ..'"),
@@ -215,10 +215,11 @@ class Read(unittest.TestCase):
         self.assertEqual(order.setting_lines["positivity"], 3)
 
     def test_the_split(self):
-        for text, split in ("", "original"), ("split: original\n", "original"), ("split: careful # only\n", "careful"), ("SPLIT: Careful\n", "careful"):
+        for text, split in ("", "original"), ("split: original\n", "original"), ("split: careful # only\n", "careful"), ("SPLIT: Careful\n", "careful"), ("Split: SAFE\n", "safe"):
             with self.subTest(text=text):
                 self.assertEqual(read(f"{text}0\n1 2\nat 0\n").settings["split"], split)
-        self.assertEqual(read("0\n1 2\nat 0\n", sets=["split: careful"]).settings["split"], "careful")
+        for split in "careful", "safe":
+            self.assertEqual(read("0\n1 2\nat 0\n", sets=[f"split: {split}"]).settings["split"], split)
 
     def test_signs_that_editors_write(self):
         order = read("\ufefftitle: x\r\n2026-10\u00a029.40\r\n\r\ndaily\r\n")
