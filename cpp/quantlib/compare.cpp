@@ -29,8 +29,8 @@ public:
     {
         const std::uint8_t refusal = havgrunel_build(
             table.knots.data(), points, table.averages.data(), points, settings.quadraticity, settings.monotonicity,
-            settings.positive, false, hold, false, 0, 0.0, nodes_.data(), nodes_.size(), tags_.data(), tags_.size(),
-            slots_.data(), slots_.size(), &sections_, 1, tail_.data(), tail_.size());
+            settings.positive, HAVGRUNEL_SPLIT_ORIGINAL, hold, false, 0, 0.0, nodes_.data(), nodes_.size(), tags_.data(),
+            tags_.size(), slots_.data(), slots_.size(), &sections_, 1, tail_.data(), tail_.size());
         return accepted(refusal, table, points, hold);
     }
 
@@ -39,9 +39,10 @@ public:
     {
         const std::uint8_t refusal = havgrunel_grow(
             table.knots.data(), points, table.averages.data(), points, settings.quadraticity, settings.monotonicity,
-            settings.positive, false, localisation, final_size, previous.sections_ > 0, previous.sections_, previous.held_,
-            previous.tags_.data(), previous.tags_.size(), previous.slots_.data(), previous.slots_.size(), nodes_.data(),
-            nodes_.size(), tags_.data(), tags_.size(), slots_.data(), slots_.size(), &sections_, 1, tail_.data(), tail_.size());
+            settings.positive, HAVGRUNEL_SPLIT_ORIGINAL, localisation, final_size, previous.sections_ > 0, previous.sections_,
+            previous.held_, previous.tags_.data(), previous.tags_.size(), previous.slots_.data(), previous.slots_.size(),
+            nodes_.data(), nodes_.size(), tags_.data(), tags_.size(), slots_.data(), slots_.size(), &sections_, 1, tail_.data(),
+            tail_.size());
         return accepted(refusal, table, points, points != final_size);
     }
 
