@@ -90,7 +90,7 @@ bool havgrunel_default_positivity(void);
  * seam and no given node. How far rounding may still take a curve was tried on three million drawn strips at quadraticity 0, 0.3 and 1 with a monotonicity
  * of at most 0.99 and a largest average of 0.001 or more: no price was below 0 by more than 1e-12 of the largest average, no average was lost by more than
  * 1e-11 of it beyond the rounding of the running total, and every price was finite. Beyond these bounds, where the largest average is below 0.001, up to
- * 1e-14 is lost of an average, whatever its size. Above a monotonicity of 0.99 every split loses averages by cancellation, 5e-8 of them at 0.9999, and at
+ * 1e-14 is lost of an average, whatever its size. Above a monotonicity of 0.99 every split loses averages by cancellation, 3e-8 was seen at 0.9999, and at
  * exactly 1 there may be no price at a left knot.
  *
  * `hold` asks for a constant last period. With `seamed`, the node at `seam_count` is `seam_node`; without it the two are not read. Written are
