@@ -1,7 +1,7 @@
-// The settings of the method where nothing else is asked for.
+// The two defaults of the method: that which holds where nothing else is asked for, and that for gas.
 use table::method::ConvexMonotone;
 ghost use mathlib.Core.Path.{_≡_};
-ghost use Rattle.table.specs.Method.{defaults};
+ghost use Rattle.table.specs.Method.{defaults, gas};
 
 #[no_mangle]
 pub extern "C" fn havgrunel_default_quadraticity() -> f64
@@ -22,4 +22,25 @@ pub extern "C" fn havgrunel_default_positivity() -> bool
     ensures { λ r. ⌜ r ≡ defaults .«force_positive» ⌝ }
 {
     ConvexMonotone::defaults().force_positive
+}
+
+#[no_mangle]
+pub extern "C" fn havgrunel_gas_quadraticity() -> f64
+    ensures { λ r. ⌜ r ≡ gas .quadraticity ⌝ }
+{
+    ConvexMonotone::gas().quadraticity
+}
+
+#[no_mangle]
+pub extern "C" fn havgrunel_gas_monotonicity() -> f64
+    ensures { λ r. ⌜ r ≡ gas .monotonicity ⌝ }
+{
+    ConvexMonotone::gas().monotonicity
+}
+
+#[no_mangle]
+pub extern "C" fn havgrunel_gas_positivity() -> bool
+    ensures { λ r. ⌜ r ≡ gas .«force_positive» ⌝ }
+{
+    ConvexMonotone::gas().force_positive
 }

@@ -10,6 +10,7 @@ use Rattle.table.proofs.method.ConvexMonotone.new.Reads as convex-monot
 use Rattle.table.proofs.method.ConvexMonotone.with_split.Reads as convex-monotone-with-split
 use Rattle.table.proofs.method.ConvexMonotone.is_safe.Reads as convex-monotone-is-safe
 use Rattle.table.proofs.method.ConvexMonotone.defaults.Reads as convex-monotone-defaults
+use Rattle.table.proofs.method.ConvexMonotone.gas.Reads as convex-monotone-gas
 
 pub knots-of-unique : OneAnswer knots-of.Post
 knots-of-unique κ a r₁ r₂ s t p q = p ∙ sym q
@@ -37,3 +38,6 @@ convex-monotone-is-safe-unique κ a r₁ r₂ s t p q = p ∙ sym q
 
 pub convex-monotone-defaults-unique : OneAnswer convex-monotone-defaults.Post
 convex-monotone-defaults-unique κ a r₁ r₂ s t p q = p ∙ sym q
+
+pub convex-monotone-gas-unique : OneAnswer convex-monotone-gas.Post
+convex-monotone-gas-unique κ a r₁ r₂ s t p q = p ∙ sym q

@@ -1,4 +1,5 @@
--- 000, ConvexMonotone. 01, Queries, settings and growth: the defaults. 02, K3: the mode of the split is part of the settings. The safe mode is our own.
+-- 000, ConvexMonotone. 01, Queries, settings and growth: the default, which 02, K6 names the gas default, beside its own. 02, K3: the mode of the split is
+-- part of the settings. The safe mode is our own.
 use mathlib.Core.Bool.{Bool, true, false, _&&_}
 use lib.Ieee.{Float}
 use Rattle.numbers.specs.Words.{threeTenths, sevenTenths}
@@ -23,5 +24,10 @@ isSafe split.Safe = true
 abbrev pub safely : ConvexMonotone → Bool
 safely m = isSafe (m .split) && m .«force_positive»
 
+-- 02, K6: what holds where no setting is named
 abbrev pub defaults : ConvexMonotone
-defaults = new threeTenths sevenTenths true
+defaults = new threeTenths sevenTenths false
+
+-- 02, K6: the default of 01 and of 000, under a name of its own
+abbrev pub gas : ConvexMonotone
+gas = new threeTenths sevenTenths true

@@ -1,6 +1,6 @@
 // The settings of the method, passed whole.
 ghost use mathlib.Core.Path.{_≡_};
-ghost use Rattle.table.specs.Method.{new, defaults, withSplit, isSafe, safely};
+ghost use Rattle.table.specs.Method.{new, defaults, gas, withSplit, isSafe, safely};
 
 // When positivity splits a parabola. The original does so wherever its two tests pass, also where the period then loses its average. The careful split
 // leaves such a parabola whole. The safe split decides as exact arithmetic would, so that no price falls below 0 either; its table has no average below 0.
@@ -28,11 +28,19 @@ pub struct ConvexMonotone {
 }
 
 impl ConvexMonotone {
+    // The default. Power trades below 0, so positivity is off.
     pub const QUADRATICITY: f64 = 0.3;
 
     pub const MONOTONICITY: f64 = 0.7;
 
-    pub const FORCE_POSITIVE: bool = true;
+    pub const FORCE_POSITIVE: bool = false;
+
+    // The gas default, which is the default of the original.
+    pub const GAS_QUADRATICITY: f64 = 0.3;
+
+    pub const GAS_MONOTONICITY: f64 = 0.7;
+
+    pub const GAS_FORCE_POSITIVE: bool = true;
 
     // Any numbers are taken here; a build refuses those outside [0, 1]. The split is the original's.
     pub fn new(quadraticity: f64, monotonicity: f64, force_positive: bool) -> Self
@@ -73,5 +81,15 @@ impl ConvexMonotone {
         ensures { λ r. ⌜ r ≡ defaults ⌝ }
     {
         Self::new(Self::QUADRATICITY, Self::MONOTONICITY, Self::FORCE_POSITIVE)
+    }
+
+    pub fn gas() -> Self
+        ensures { λ r. ⌜ r ≡ gas ⌝ }
+    {
+        Self::new(
+            Self::GAS_QUADRATICITY,
+            Self::GAS_MONOTONICITY,
+            Self::GAS_FORCE_POSITIVE,
+        )
     }
 }
