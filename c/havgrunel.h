@@ -62,10 +62,18 @@ enum havgrunel_refusal {
 /* The square root, correctly rounded. A zero, +infinity and a NaN are their own roots; below zero there is none, and a NaN comes back. */
 double havgrunel_sqrt(double a);
 
-/* The settings of the method where nothing else is asked for. */
+/*
+ * The two defaults of the method. Both have quadraticity 0.3 and monotonicity 0.7, and go with HAVGRUNEL_SPLIT_ORIGINAL.
+ *
+ * The default is for where nothing else is asked for. Its positivity is off, since power trades below zero and positivity would bend such a curve.
+ * The gas default has positivity on, for what does not trade below zero. It is the default of the original.
+ */
 double havgrunel_default_quadraticity(void);
 double havgrunel_default_monotonicity(void);
 bool havgrunel_default_positivity(void);
+double havgrunel_gas_quadraticity(void);
+double havgrunel_gas_monotonicity(void);
+bool havgrunel_gas_positivity(void);
 
 /*
  * Builds the curve of a table: knots that rise, and for each knot but the first the average of the period that ends there. The first average is

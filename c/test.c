@@ -444,7 +444,7 @@ static void growth(void)
 {
     const double knots[] = {0.0, 1.0, 2.5, 3.0, 5.0};
     const double averages[] = {0.0, 1.0, 3.0, 2.0, 2.5};
-    struct table t = {knots, 3, averages, 3, havgrunel_default_quadraticity(), havgrunel_default_monotonicity(), havgrunel_default_positivity(), 0};
+    struct table t = {knots, 3, averages, 3, havgrunel_gas_quadraticity(), havgrunel_gas_monotonicity(), havgrunel_gas_positivity(), 0};
     struct curve first;
     struct curve second;
     struct curve whole;
@@ -794,7 +794,10 @@ static void defaults(void)
 {
     CHECK(same(havgrunel_default_quadraticity(), 0.3));
     CHECK(same(havgrunel_default_monotonicity(), 0.7));
-    CHECK(havgrunel_default_positivity());
+    CHECK(!havgrunel_default_positivity());
+    CHECK(same(havgrunel_gas_quadraticity(), 0.3));
+    CHECK(same(havgrunel_gas_monotonicity(), 0.7));
+    CHECK(havgrunel_gas_positivity());
 }
 
 static void roots(void)
