@@ -6,6 +6,9 @@ use crate::words::MOST;
 
 // What a line of this letter and so many words adds.
 fn known(letter: u8, words: &[u64; MOST], count: usize, state: State) -> State {
+    if letter == b'm' && count == 3 {
+        return state.default(words);
+    }
     if letter == b'r' && count == 2 {
         return state.root(words);
     }

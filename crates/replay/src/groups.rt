@@ -2,6 +2,7 @@
 use crate::curves;
 use crate::cuts;
 use crate::cuts::Cut;
+use crate::defaults;
 use crate::growths;
 use crate::kept;
 use crate::kept::Kept;
@@ -79,6 +80,15 @@ impl State {
     pub(crate) fn strange_line(self) -> Self {
         let seen = self.seen;
         self.with_kept(seen.strange_line(), Subject::Nothing, kept::none())
+    }
+
+    pub(crate) fn default(self, words: &[u64; MOST]) -> Self {
+        let seen = self.seen;
+        let subject = self.subject;
+        self.with(
+            seen.default(defaults::agrees(words[0], words[1], words[2])),
+            subject,
+        )
     }
 
     pub(crate) fn root(self, words: &[u64; MOST]) -> Self {

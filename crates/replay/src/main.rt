@@ -1,6 +1,7 @@
 // Replays the original's answers: reads its file from standard input, works each answer out again and counts what differs.
 mod curves;
 mod cuts;
+mod defaults;
 mod file;
 mod groups;
 mod growths;
@@ -77,6 +78,7 @@ fn print_sheets(n: Sheets) {
 }
 
 fn print(seen: Seen) {
+    print_count(b"defaults ", seen.defaults);
     print_count(b"roots ", seen.roots);
     let sections = seen.sections;
     print_sections(sections);

@@ -20,6 +20,7 @@ pub(crate) struct Sheets {
 }
 
 pub(crate) struct Seen {
+    pub defaults: u64,
     pub roots: u64,
     pub sections: [u64; KINDS],
     pub records: u64,
@@ -118,6 +119,7 @@ impl Seen {
         let grown = Curves::none();
         let sheets = Sheets::none();
         Self {
+            defaults: 0,
             roots: 0,
             sections: [0; KINDS],
             records: 0,
@@ -135,6 +137,11 @@ impl Seen {
             self.mismatches = more(self.mismatches);
         }
         self
+    }
+
+    pub(crate) fn default(mut self, agrees: bool) -> Self {
+        self.defaults = more(self.defaults);
+        self.judged(agrees)
     }
 
     pub(crate) fn root(mut self, agrees: bool) -> Self {

@@ -1,7 +1,7 @@
 //! Requests and answers by lines of text; the grammar stands in the README.
 
 use crate::{Curve, Recipe, Record, Refusal, Seam, Section, Settings, words};
-use crate::{build_with, grow, nodes, root, section};
+use crate::{build_with, default_settings, grow, nodes, root, section};
 
 /// Answers requests, keeping the section and the curve made last.
 #[derive(Default)]
@@ -24,6 +24,7 @@ impl Asked {
         }
         let mut given = Given(&rest);
         let answer = match verb {
+            "default" => method_line(&default_settings()),
             "root" => self.root(&mut given)?,
             "section" => self.section(&mut given)?,
             "at" => self.at(&mut given)?,
@@ -135,6 +136,14 @@ impl Asked {
         let curve = self.curve.as_ref().ok_or("no curve was made yet")?;
         Ok(told_line('d', curve.derivative(x).map(|value| [value])))
     }
+}
+
+/// Settings, positivity first, as those of a table are told.
+fn method_line(settings: &Settings) -> String {
+    let mut line = String::from("m");
+    words::push(&mut line, settings.positivity.into());
+    words::push_floats(&mut line, &[settings.quadraticity, settings.monotonicity]);
+    line + "\n"
 }
 
 /// A record and the node it ends on.

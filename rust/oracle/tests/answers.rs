@@ -8,6 +8,7 @@ use oracle::{answers, legal_tags, words};
 
 fn whole() -> String {
     let parts = [
+        answers::default(),
         answers::roots(),
         answers::sections(),
         answers::curves(),
@@ -42,7 +43,7 @@ fn every_line_keeps_the_format() {
             "r" => assert_eq!(count, 2),
             "s" => assert!((4..=17).contains(&count), "{line}"),
             "t" => assert_eq!(count, 26),
-            "x" | "e" => assert_eq!(count, 3),
+            "m" | "x" | "e" => assert_eq!(count, 3),
             // As many as 32 points have.
             "c" => assert!((6..=72).contains(&count), "{line}"),
             "g" => assert!((7..=71).contains(&count), "{line}"),
@@ -202,6 +203,7 @@ fn asking_gives_the_same_lines() {
     for line in text.lines() {
         let words: Vec<&str> = line.split(' ').collect();
         let request = match words[0] {
+            "m" => String::from("default"),
             "r" => format!("root {}", words[1]),
             "s" => {
                 again += &format!("{line}\n");

@@ -44,6 +44,15 @@ fn a_build_and_its_queries() {
 }
 
 #[test]
+fn the_default_is_told() {
+    let told = Asked::default().answer("default");
+    assert_eq!(
+        told.as_deref(),
+        Ok("m 1 3fd3333333333333 3fe6666666666666\n")
+    );
+}
+
+#[test]
 fn growth_needs_the_curve_before() {
     let mut asked = Asked::default();
     let grow = |points: usize| {
@@ -66,6 +75,7 @@ fn what_is_no_request_is_said_to_be_none() {
     for line in [
         "",
         "what",
+        "default 1",
         "root",
         "root g",
         "root 1 2",

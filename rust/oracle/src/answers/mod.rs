@@ -10,11 +10,22 @@ mod sections;
 mod tables;
 mod told;
 
+use crate::asking::Asked;
+
 /// Lines to be replayed, and what they hold.
 pub struct Answers {
     pub lines: String,
     /// What was written and how many, in the order written.
     pub counts: Vec<(String, usize)>,
+}
+
+/// The settings that the original takes when none are named: a line `m`.
+pub fn default() -> Answers {
+    let lines = Asked::default().answer("default").expect("a request");
+    Answers {
+        lines,
+        counts: vec![("defaults".to_string(), 1)],
+    }
 }
 
 /// The roots: lines `r`.

@@ -15,17 +15,19 @@ fn main() -> io::Result<ExitCode> {
     let wanted: Vec<&str> = wanted.iter().map(String::as_str).collect();
     let parts: Vec<Answers> = match wanted[..] {
         [] => vec![
+            answers::default(),
             answers::roots(),
             answers::sections(),
             answers::curves(),
             answers::growth(),
         ],
+        ["default"] => vec![answers::default()],
         ["roots"] => vec![answers::roots()],
         ["sections"] => vec![answers::sections()],
         ["curves"] => vec![answers::curves()],
         ["growth"] => vec![answers::growth()],
         _ => {
-            eprintln!("answers [roots | sections | curves | growth]");
+            eprintln!("answers [default | roots | sections | curves | growth]");
             return Ok(ExitCode::FAILURE);
         }
     };

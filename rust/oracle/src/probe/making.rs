@@ -105,7 +105,7 @@ fn method(settings: &Settings) -> ConvexMonotone {
     )
 }
 
-/// The settings that the original takes when none are named.
+/// The settings that the original takes when none are named. The library calls them its gas default.
 pub fn default_settings() -> Settings {
     let method = ConvexMonotone::default();
     Settings {
