@@ -5,6 +5,7 @@ mod anew;
 pub mod careful;
 pub mod case;
 pub mod counts;
+pub mod defaults;
 pub mod draw;
 mod expected;
 pub mod judge;

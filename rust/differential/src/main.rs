@@ -10,7 +10,7 @@ use std::time::{Duration, Instant};
 
 use differential::counts::Counts;
 use differential::judge::{Judge, Mismatch};
-use differential::{draw, roots, shrink};
+use differential::{defaults, draw, roots, shrink};
 
 const THREADS: u64 = 2;
 const USAGE: &str = "differential [--seconds S] [--cases N] [--roots N] [--seed X]";
@@ -150,6 +150,11 @@ fn main() -> ExitCode {
     }
     let seed = asked.seed;
     println!("seed {seed}");
+    if let Some(told) = defaults::compare() {
+        println!("{told}\nmismatches 1");
+        return ExitCode::FAILURE;
+    }
+    println!("the gas default is the original's default");
     // A side that stops is a difference like another, and is told once.
     panic::set_hook(Box::new(|_| {}));
 

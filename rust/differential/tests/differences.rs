@@ -139,6 +139,27 @@ fn the_weight_of_a_combination() {
     }
 }
 
+/// The original's default has positivity on, and is the gas default here. The default here has it off: a strip below 0 stays as it traded.
+#[test]
+fn the_default() {
+    let (x, y) = ([0.0, 1.0, 2.0], [0.0, -1.0, -1.0]);
+    let at_start = |method: ConvexMonotone| {
+        let curve = method.interpolate(&x, &y).expect("builds");
+        curve.value(0.0)
+    };
+    let free = ConvexMonotone::default();
+    assert_eq!(free, ConvexMonotone::new(0.3, 0.7, false));
+    assert_eq!(at_start(free), Ok(-1.0));
+    let gas = ConvexMonotone::gas();
+    assert_eq!(gas, ConvexMonotone::new(0.3, 0.7, true));
+    assert_eq!(at_start(gas), Ok(0.0));
+    if at_hand() {
+        assert_eq!(differential::defaults::compare(), None);
+        let curve = oracle::build(&oracle::default_settings(), &x, &y).expect("builds");
+        assert!(oracle::words::same(0.0, curve.value(0.0).expect("inside")));
+    }
+}
+
 /// The original has one rule of when a parabola is split, and the library a second one beside it.
 #[test]
 fn the_careful_split() {

@@ -24,6 +24,7 @@ fn a_short_run_agrees_and_is_told_alike_twice() {
     let words = ["--cases", "4000", "--roots", "40000", "--seed", "9"];
     let first = told(&words);
     assert!(first.ends_with("mismatches 0\n"), "{first}");
+    assert!(first.contains("\nthe gas default is the original's default\n"));
     assert_eq!(first, told(&words));
     let other = told(&["--cases", "4000", "--roots", "40000", "--seed", "10"]);
     assert_ne!(first, other);

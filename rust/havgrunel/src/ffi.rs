@@ -18,6 +18,9 @@ pub use archive::havgrunel_default_monotonicity as default_monotonicity;
 pub use archive::havgrunel_default_positivity as default_positivity;
 pub use archive::havgrunel_default_quadraticity as default_quadraticity;
 pub use archive::havgrunel_derivative as derivative;
+pub use archive::havgrunel_gas_monotonicity as gas_monotonicity;
+pub use archive::havgrunel_gas_positivity as gas_positivity;
+pub use archive::havgrunel_gas_quadraticity as gas_quadraticity;
 pub use archive::havgrunel_inner_node as inner_node;
 pub use archive::havgrunel_sqrt as sqrt;
 

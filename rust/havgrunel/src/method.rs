@@ -60,7 +60,32 @@ impl ConvexMonotone {
         }
     }
 
-    /// The same settings, splitting by this rule. Curves of all rules are asked alike, and a curve may grow from one of another
+    /// The gas default: quadraticity 0.3, monotonicity 0.7 and positivity on, splitting as the original does. These are the settings
+    /// of the original's own `Default`; those of ours have positivity off.
+    ///
+    /// ```
+    /// use havgrunel::{ConvexMonotone, Split};
+    ///
+    /// assert_eq!(ConvexMonotone::gas(), ConvexMonotone::new(0.3, 0.7, true));
+    /// assert_eq!(ConvexMonotone::default(), ConvexMonotone::new(0.3, 0.7, false));
+    ///
+    /// // A cheap first month: by the default its price falls below zero, by the gas default with the safe split no price does.
+    /// let (x, y) = ([0.0, 28.0, 56.0, 85.0], [0.0, 0.62, 59.03, 47.69]);
+    /// let start = |method: ConvexMonotone| method.interpolate(&x, &y)?.value(0.0);
+    /// assert!(start(ConvexMonotone::default())? < -13.0);
+    /// assert_eq!(start(ConvexMonotone::gas().with_split(Split::Safe))?, 0.0);
+    /// # Ok::<(), havgrunel::Refusal>(())
+    /// ```
+    pub fn gas() -> Self {
+        ConvexMonotone::new(
+            ffi::gas_quadraticity(),
+            ffi::gas_monotonicity(),
+            ffi::gas_positivity(),
+        )
+    }
+
+    /// The same settings, splitting by this rule. Without positivity nothing is split, and the rule makes no difference: that is so
+    /// of [`default`](ConvexMonotone::default). Curves of all rules are asked alike, and a curve may grow from one of another
     /// rule; but sheets of one table must all have the same.
     ///
     /// Three falling months, of which the second traded at 3. By the original's rule it is split, although it goes from 4 to 2, and
@@ -146,7 +171,8 @@ impl ConvexMonotone {
 }
 
 impl Default for ConvexMonotone {
-    /// The settings of the library where nothing else is asked for; it splits as the original does.
+    /// The settings of the library where nothing else is asked for: quadraticity 0.3, monotonicity 0.7 and positivity off, splitting
+    /// as the original does. The original's own has positivity on: that is [`gas`](ConvexMonotone::gas).
     fn default() -> Self {
         ConvexMonotone::new(
             ffi::default_quadraticity(),

@@ -1,7 +1,7 @@
 //! The figures of the requirements, through the safe crate.
 
 use havgrunel::lent::{self, Buffers, Seam};
-use havgrunel::{ConvexMonotone, Record, Refusal, Tail, sqrt};
+use havgrunel::{ConvexMonotone, Record, Refusal, Split, Tail, sqrt};
 
 const KNOTS: [f64; 3] = [0.0, 1.0, 2.0];
 const AVERAGES: [f64; 3] = [0.0, 1.0, 3.0];
@@ -96,9 +96,12 @@ fn p10_a_seam_leaves_a_period_to_build() {
 }
 
 #[test]
-fn the_defaults_are_the_methods() {
-    assert_eq!(
-        ConvexMonotone::default(),
-        ConvexMonotone::new(0.3, 0.7, true)
-    );
+fn the_two_defaults_are_the_methods() {
+    let power = ConvexMonotone::new(0.3, 0.7, false);
+    assert_eq!(ConvexMonotone::default(), power);
+    let gas = ConvexMonotone::new(0.3, 0.7, true);
+    assert_eq!(ConvexMonotone::gas(), gas);
+    for method in [power, gas] {
+        assert_eq!(method, method.with_split(Split::Original));
+    }
 }

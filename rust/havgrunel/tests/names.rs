@@ -1,4 +1,5 @@
-//! Code that was written for the old module compiles with one `use` line changed: by its types, and by its traits.
+//! Code that was written for the old module compiles with one `use` line changed, by its types and by its traits; and where it takes the default
+//! settings it means the same once it names those for gas.
 
 mod by_types {
     use havgrunel::{ConvexMonotone, ConvexMonotoneInterpolation};
@@ -6,12 +7,12 @@ mod by_types {
     #[test]
     fn a_curve_is_built_and_asked() -> Result<(), Box<dyn std::error::Error>> {
         let (x, y) = (vec![0.0, 1.0, 2.0], vec![0.0, 1.0, 3.0]);
-        let curve = ConvexMonotone::default().interpolate(&x, &y)?;
+        let curve = ConvexMonotone::gas().interpolate(&x, &y)?;
         let same = ConvexMonotoneInterpolation::new(x.clone(), y.clone(), 0.3, 0.7, true)?;
         assert_eq!(curve.value(0.5)?, same.value(0.5)?);
         assert_eq!(curve.primitive(2.0)?, 4.0);
         assert!(curve.is_in_range(1.0) && curve.x_min() == 0.0 && curve.x_max() == 2.0);
-        let grown = ConvexMonotone::default().local_interpolate(&x, &y, 2, None, 3)?;
+        let grown = ConvexMonotone::gas().local_interpolate(&x, &y, 2, None, 3)?;
         assert_eq!(grown.value(1.5)?, curve.value(1.5)?);
         assert!(curve.with_extrapolation(true).allows_extrapolation());
         Ok(())

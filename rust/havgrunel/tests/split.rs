@@ -60,7 +60,7 @@ fn all(curve: &ConvexMonotoneInterpolation) -> All {
 #[test]
 fn old_callers_get_the_originals_rule() {
     assert_eq!(Split::default(), Split::Original);
-    for method in [falling(), ConvexMonotone::default()] {
+    for method in [falling(), ConvexMonotone::default(), ConvexMonotone::gas()] {
         assert_eq!(method, method.with_split(Split::Original));
         assert_ne!(method, method.with_split(Split::Careful));
         let there_and_back = method.with_split(Split::Careful);

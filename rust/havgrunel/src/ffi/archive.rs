@@ -6,6 +6,9 @@ unsafe extern "C" {
     pub safe fn havgrunel_default_quadraticity() -> f64;
     pub safe fn havgrunel_default_monotonicity() -> f64;
     pub safe fn havgrunel_default_positivity() -> bool;
+    pub safe fn havgrunel_gas_quadraticity() -> f64;
+    pub safe fn havgrunel_gas_monotonicity() -> f64;
+    pub safe fn havgrunel_gas_positivity() -> bool;
     pub safe fn havgrunel_derivative(x: f64) -> u8;
     pub safe fn havgrunel_inner_node(
         before: f64,
