@@ -17,6 +17,6 @@ from .curve import Curve, Method, Tail, sqrt
 from .refusals import Refused
 from .section import Section
 
-__version__ = "0.1.0"
+__version__ = "0.2.0"
 
 __all__ = ["MOST_POINTS", "SLOTS", "Curve", "LibraryMissing", "Method", "Refused", "Section", "Tail", "sqrt"]

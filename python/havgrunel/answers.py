@@ -170,7 +170,7 @@ def answer(order: Order) -> Answer:
         tables.append(Answered(asked, rows))
     found = Answer(order, curve, tables, holdings(order, curve))
     found.keeping = keeping(order) if found.lost else ""
-    found.before = [f"{order.place(line)}: {what}" for line, what in order.doubts] + below_averages(order)
+    found.before = [f"{order.place(line)}: {what}" for line, what in order.doubts] + left_out(order) + below_averages(order)
     found.not_finite, lines = not_finite(found)
     below = below_prices(found)
     found.after = lines + below + advice(found, bool(lines), bool(below))
@@ -241,6 +241,17 @@ def told(lines: List[str], order: Order, what: str) -> List[str]:
     if len(lines) <= MOST_TOLD:
         return lines
     return [*lines[:MOST_TOLD], f"{order.name}: and {len(lines) - MOST_TOLD} more {what}"]
+
+
+def left_out(order: Order) -> List[str]:
+    """Where neither positivity nor a default is set, that it is off: it was on once, and an order of that time must not change its meaning unseen. And
+    where another split than the original's is set, that it does nothing then."""
+    s, lines = order.settings, []
+    if "positivity" not in order.setting_lines and "settings" not in order.setting_lines:
+        lines.append(f"{order.name}: positivity is not set, and is off by the default; 'settings: gas' has it on")
+    if s["split"] != "original" and not s["positivity"]:
+        lines.append(f"{order.place(order.setting_lines['split'])}: a {s['split']} split does nothing while positivity is off")
+    return lines
 
 
 def below_averages(order: Order) -> List[str]:

@@ -7,6 +7,7 @@ asked:
     title: Gas, winter 2026/27   # every setting may be left out
     price: EUR/MWh               # the unit of a price
     time: days                   # what a knot counts, where it is a number
+    settings: gas                # or default: of what is left out below
     quadraticity: 0.3            # from 0 to 1
     monotonicity: 0.7            # from 0 to 1
     positivity: on               # on or off
@@ -22,10 +23,14 @@ asked:
     daily                        # also: hourly, every 0.25
     at 2026-10-15 2026-11-15     # points, as many lines as you like
 
-The values above are the defaults of the library. Periods are named 2026-10,
-Oct-26, Oct 2026, 2026-Q4, Q4-26, winter 2026, Win-26 (October to March),
-summer 2027, Sum-27 (April to September), 2027 or Cal-27. They must adjoin, and
-END is where the next one starts: the day after the last day.
+The library has two defaults. 'settings: gas' names the values above. Where no
+default is named, positivity is off, and all else is the same: that is for
+power, which trades below 0. The heading of a table tells which default it has.
+
+Periods are named 2026-10, Oct-26, Oct 2026, 2026-Q4, Q4-26, winter 2026, Win-26
+(October to March), summer 2027, Sum-27 (April to September), 2027 or Cal-27.
+They must adjoin, and END is where the next one starts: the day after the last
+day.
 
 A table may also have a knot to a line, with the average of the period that
 ends there. The first knot stands alone:
@@ -64,7 +69,7 @@ from typing import List, Optional, Sequence, Tuple
 
 from . import __version__
 from ._library import LibraryMissing, load
-from .answers import Answer, answer
+from .answers import Answer, answer, left_out
 from .csvfile import is_table, read_csv
 from .faults import Bad, Stop, quoted
 from .files import guard, read, tell, write
@@ -112,7 +117,7 @@ def parser_of(prog: str) -> argparse.ArgumentParser:
     instead.add_argument("--tsv", metavar="FILE", help="the same with tabs")
     instead.add_argument("--bytes", metavar="FILE", help="write the order's bytes, as target/bin/curveorder takes them, into this file instead; a careful or safe split has none")
     instead.add_argument("--exact", action="store_true", help="print each number so that it reads back as the same float")
-    set_help = "a setting besides those of the text, as 'quadraticity: 0'; may be given several times"
+    set_help = "a setting besides those of the text, as 'settings: gas'; may be given several times"
     parser.add_argument("--set", metavar="SETTING", action="append", default=[], help=set_help)
     ask_help = "what is asked besides what the text asks, as 'hourly' or 'at 2026-10-15'; may be given several times"
     parser.add_argument("--ask", metavar="WORDS", action="append", default=[], help=ask_help)
@@ -203,7 +208,10 @@ def run(asked: argparse.Namespace) -> int:
     if option is not None and target != "-":
         guard(target, option, asked.files)
     if option == "--bytes":
-        write(target, whole(orders[0]))
+        told = whole(orders[0])
+        for line in left_out(orders[0]):
+            tell(line)
+        write(target, told)
         return 0
     load(progress=True)
     answers = [answer(order) for order in orders]

@@ -39,13 +39,13 @@ SPLITS = ("original", "careful", "safe")
 
 @dataclass(frozen=True)
 class Method:
-    """The settings of the method; what is left out is what the library itself takes.
+    """The settings of the method; what is left out is what the library itself takes: 0.3, 0.7, positivity off and the original split.
 
     quadraticity -- from 0 to 1: how much of each section is a parabola
     monotonicity -- from 0 to 1: how monotone the rest is
     positivity   -- whether prices are held above zero; docs/SHAPES.md says where that fails
     split        -- "original"; "careful": positivity then splits no parabola that would lose its average by it; or "safe": with positivity no price is
-                    then below 0 and no average is lost, and an average below 0 is refused
+                    then below 0 and no average is lost, and an average below 0 is refused. Without positivity all three are the same
     """
 
     quadraticity: float = _default("quadraticity")
@@ -58,6 +58,13 @@ class Method:
         object.__setattr__(self, "monotonicity", _numbers.one(self.monotonicity, "the monotonicity"))
         object.__setattr__(self, "positivity", _numbers.switch(self.positivity, "the positivity"))
         object.__setattr__(self, "split", _numbers.word(self.split, "the split", SPLITS))
+
+    @classmethod
+    def gas(cls, **others: Any) -> "Method":
+        """The library's gas default, 0.3, 0.7, positivity on and the original split; others may be given by name, as in Method.gas(split="safe")."""
+        library = load()
+        default = {setting: getattr(library, f"havgrunel_gas_{setting}")() for setting in ("quadraticity", "monotonicity", "positivity")}
+        return cls(**{**default, **others})
 
 
 class Tail(NamedTuple):

@@ -5,7 +5,7 @@ from typing import List, Sequence, Tuple
 
 from .answers import Answer, Answered, AtPoint, OverRow, period, short
 from .csvfile import POINT_NAMES, ROW_NAMES, full, written
-from .text import METHOD, SETTINGS, Order, Points, Rows, in_words, needs_clock, plain, show
+from .text import METHOD, SETTINGS, Order, Points, Rows, default_name, in_words, needs_clock, plain, show
 
 # What the first column of rows is called.
 ROW_HEADS = {"daily": "day", "hourly": "hour"}
@@ -30,10 +30,12 @@ def of(count: int, noun: str) -> str:
 
 
 def heading(order: Order) -> List[str]:
-    """The title, where there is one, and the settings of the method."""
+    """The title, where there is one, and the settings of the method: first those that the order sets, then the rest, with the default that they are of."""
     s = order.settings
-    settings = [in_words(key, s[key]) for k, key in enumerate(METHOD) if k < 3 or s[key] != SETTINGS[key][1]]
-    return [*([str(s["title"])] if s["title"] else []), ", ".join([of(len(order.knots) - 1, "period"), *settings])]
+    told = [key for k, key in enumerate(METHOD) if k < 3 or s[key] != SETTINGS[key][1]]
+    line = ", ".join([of(len(order.knots) - 1, "period"), *(in_words(key, s[key]) for key in told if key in order.setting_lines)])
+    rest = ", ".join(in_words(key, s[key]) for key in told if key not in order.setting_lines)
+    return [*([str(s["title"])] if s["title"] else []), f"{line}; {default_name(order)}: {rest}" if rest else line]
 
 
 def units(order: Order) -> Tuple[str, str, str]:

@@ -129,6 +129,12 @@ def split_rule(value: str) -> str:
     return value.lower()
 
 
+def named_default(value: str) -> str:
+    if value.lower() not in DEFAULTS:
+        raise Bad(f"{quoted(value)} is neither {' nor '.join(map(quoted, DEFAULTS))}")
+    return value.lower()
+
+
 def not_read(value: str) -> str:
     if " ".join(value.lower().split()) != "not read":
         raise Bad(f"the first average can be said to be 'not read', and this says {quoted(value)}")
@@ -139,21 +145,28 @@ def figure(value: str) -> float:
     return number(value.replace("\u2212", "-"))
 
 
-# Each setting: how its value is read, and what it is where it is left out. The numbers are the library's own defaults.
+# The two defaults of the library, with its own numbers. A text that names neither has the first.
+DEFAULTS: Dict[str, Dict[str, object]] = {
+    "default": {"quadraticity": 0.3, "monotonicity": 0.7, "positivity": False, "split": SPLITS[0]},
+    "gas": {"quadraticity": 0.3, "monotonicity": 0.7, "positivity": True, "split": SPLITS[0]},
+}
+
+# Each setting: how its value is read, and what it is where it is left out and no default is named.
 SETTINGS: Dict[str, Tuple[Callable[[str], object], object]] = {
     "title": (words, ""),
     "price": (words, ""),
     "time": (words, ""),
-    "quadraticity": (figure, 0.3),
-    "monotonicity": (figure, 0.7),
-    "positivity": (switch, True),
-    "split": (split_rule, SPLITS[0]),
+    "settings": (named_default, "default"),
+    "quadraticity": (figure, DEFAULTS["default"]["quadraticity"]),
+    "monotonicity": (figure, DEFAULTS["default"]["monotonicity"]),
+    "positivity": (switch, DEFAULTS["default"]["positivity"]),
+    "split": (split_rule, DEFAULTS["default"]["split"]),
     "hold last period": (switch, False),
     "extrapolation": (switch, False),
     "first average": (not_read, ""),
 }
 
-# Those that shape the curve. A table's heading tells the first three always and the others where they are not the default.
+# Those that shape the curve. A table's heading tells the first three always, and the others where they are not what they are when left out.
 METHOD = ["quadraticity", "monotonicity", "positivity", "split", "hold last period", "extrapolation"]
 
 
@@ -162,6 +175,12 @@ def in_words(key: str, value: object) -> str:
     if isinstance(value, str):
         return f"{value} {key}"
     return f"{key} {plain(value)}" if isinstance(value, float) else f"{key} {'on' if value else 'off'}"
+
+
+def default_name(order: Order) -> str:
+    """The default that an order goes by in what it does not set."""
+    name = order.settings["settings"]
+    return "default" if name == "default" else f"{name} default"
 
 
 # A setting's line starts with words and a colon. What is asked and knots have a digit before any colon.
@@ -187,6 +206,10 @@ def read_setting(order: Order, key: str, value: str, line: Line) -> None:
         raise Bad(f"'{key}' is set twice, first {f'in line {first}' if isinstance(first, int) else f'by {first}'}")
     order.setting_lines[key] = line
     order.settings[key] = SETTINGS[key][0](value)
+    if key == "settings":
+        # What has a line of its own stays as that line says, wherever it stands.
+        named = DEFAULTS[str(order.settings[key])]
+        order.settings.update({other: held for other, held in named.items() if other not in order.setting_lines})
 
 
 # ---- What is asked ----

@@ -76,6 +76,11 @@ def run(*words: str, text: Union[str, bytes, None] = None) -> Ran:
         return Ran(status, out.read().decode(), told.getvalue())
 
 
+def run_gas(*words: str, text: Union[str, bytes, None] = None) -> Ran:
+    """The same by the gas default. An option names it, so that the lines of a text keep their numbers."""
+    return run("--set", "settings: gas", *words, text=text)
+
+
 def start(words: List[str], more: Optional[dict] = None, **named) -> subprocess.CompletedProcess:
     """The command in a process of its own, with more of an environment."""
     return subprocess.run([sys.executable, ORDER, *words], env={**os.environ, **(more or {})}, timeout=60, **named)

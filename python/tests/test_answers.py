@@ -9,11 +9,11 @@ from fractions import Fraction
 from havgrunel import Curve, Method
 from havgrunel.answers import ROUNDING, Held, answer, holdings
 from havgrunel.text import Order, read_order
-from runs import example, run, table_rows
+from runs import example, run, run_gas, table_rows
 
 
 def read(text):
-    return read_order("x", text.encode())
+    return read_order("x", text.encode(), ["settings: gas"])
 
 
 def drawn(draw):
@@ -56,7 +56,7 @@ class Days(unittest.TestCase):
         self.assertEqual(f"{float(sum(block) / 4):.4f}", "64.0000")
 
     def test_the_end_of_the_strip_is_no_day(self):
-        out = run("-", text="0\n2.5 3\ndaily\n").out
+        out = run_gas("-", text="0\n2.5 3\ndaily\n").out
         self.assertEqual([row[0] for row in table_rows(out)], ["0", "1", "2"])
         self.assertIn("The last row is shorter than the others: it ends at 2.5.\n", out)
 
@@ -122,16 +122,16 @@ class Kept(unittest.TestCase):
             (f"split: careful\n{below}", "docs/SHAPES.md says how to avoid this."),
         ):
             with self.subTest(text=text):
-                ran = run("-", text=text)
+                ran = run_gas("-", text=text)
                 self.assertEqual((ran.status, ran.out.splitlines()[-1]), (4, f"  The rows around its ends carry the difference; {last}"))
-                lines = run("--csv", "-", "-", text=text).told.splitlines()
+                lines = run_gas("--csv", "-", "-", text=text).told.splitlines()
                 self.assertEqual(lines[-1], f"standard input: The rows around its ends carry the difference; {last}")
         for split in "careful", "safe":
-            self.assertEqual(run("-", text=f"quadraticity: 0\nsplit: {split}\n{table}").status, 0)
+            self.assertEqual(run_gas("-", text=f"quadraticity: 0\nsplit: {split}\n{table}").status, 0)
 
     def test_a_spike_in_the_last_day(self):
         """What a month lost is in the row that ends it, so that its rows still average what it traded at."""
-        ran = run("-", text="quadraticity: 0\n2027-04 33.01\n2027-05 32.50\n2027-06 32.20\n2027-07 32.30\n2027-08 32.60\n2027-09 33.40\ndaily\n")
+        ran = run_gas("-", text="quadraticity: 0\n2027-04 33.01\n2027-05 32.50\n2027-06 32.20\n2027-07 32.30\n2027-08 32.60\n2027-09 33.40\ndaily\n")
         april = [float(row[1]) for row in table_rows(ran.out) if row[0] < "2027-05"]
         self.assertEqual(ran.status, 4)
         self.assertAlmostEqual(sum(april) / 30, 33.01, 4)
@@ -157,26 +157,26 @@ class Kept(unittest.TestCase):
 
 class Told(unittest.TestCase):
     def test_averages_at_or_below_0_with_positivity(self):
-        ran = run("-", text="0\n1 2\n2 0\n3 -1\n4 2\nat 0.5\n")
+        ran = run_gas("-", text="0\n1 2\n2 0\n3 -1\n4 2\nat 0.5\n")
         self.assertIn("standard input:3: 1 to 2 traded at 0.0000, and positivity is for averages above 0\n", ran.told)
         self.assertIn("standard input:4: 2 to 3 traded at -1.0000, and positivity", ran.told)
-        self.assertEqual(run("-", text="positivity: off\n0\n1 2\n2 0\n3 -1\n4 2\nat 0.5\n").told, "")
+        self.assertEqual(run_gas("-", text="positivity: off\n0\n1 2\n2 0\n3 -1\n4 2\nat 0.5\n").told, "")
 
     def test_an_end_that_may_be_meant_as_a_last_day(self):
-        ran = run("-", text="2026-10 3\n2026-11-01 2026-11-30 4\ndaily\n")
+        ran = run_gas("-", text="2026-10 3\n2026-11-01 2026-11-30 4\ndaily\n")
         self.assertEqual((ran.status, ran.told), (0, "standard input:2: END is the day after the last day, so that 2026-11-30 is no part of this period\n"))
-        self.assertEqual(run("-", text="2026-10 3\n2026-11-01 2026-12-01 4\ndaily\n").told, "")
+        self.assertEqual(run_gas("-", text="2026-10 3\n2026-11-01 2026-12-01 4\ndaily\n").told, "")
 
     def test_a_price_below_0_between_the_points(self):
         """The cheap first month: its lowest price is found, though no day is asked."""
-        ran = run("-", text="0\n28 0.62\n56 59.03\n85 47.69\nat 0 28\n")
+        ran = run_gas("-", text="0\n28 0.62\n56 59.03\n85 47.69\nat 0 28\n")
         self.assertEqual((ran.status, ran.out.splitlines()[-1]), (0, "all 3 averages kept"))
         told = ran.told.splitlines()
         self.assertRegex(told[0], r"^standard input:2: the price near [0-9.]+ is -2\.[67][0-9]+, below 0 although positivity is on$")
         self.assertEqual(told[1:], ["standard input: 'split: safe' holds all prices at 0 or above"])
 
     def test_a_price_below_0_with_its_day(self):
-        ran = run("-", text="2026-02-01 2026-03-01 0.62\n2026-03-01 2026-03-29 59.03\n2026-03-29 2026-04-27 47.69\ndaily\n")
+        ran = run_gas("-", text="2026-02-01 2026-03-01 0.62\n2026-03-01 2026-03-29 59.03\n2026-03-29 2026-04-27 47.69\ndaily\n")
         self.assertRegex(ran.told, r"^standard input:1: the (price|average) (near|at|from) 2026-02-1[0-9]( to 2026-02-1[0-9])? is -2\.[67][0-9]+, below 0 although positivity is on\n")
 
     def test_no_finite_price(self):
@@ -188,12 +188,12 @@ class Told(unittest.TestCase):
         ]
         for text, line, cause in cases:
             with self.subTest(text=text):
-                ran = run("-", text=text)
+                ran = run_gas("-", text=text)
                 self.assertEqual(ran.status, 4)
                 self.assertRegex(ran.told, rf"(?m)^standard input:{line}: no finite .*{cause}$")
 
     def test_not_finite_where_nothing_is_printed_of_it(self):
-        ran = run("-", text="0\n1 2\n2 0\n3 2\nat 0.5\n")
+        ran = run_gas("-", text="0\n1 2\n2 0\n3 2\nat 0.5\n")
         self.assertEqual(ran.status, 4)
         self.assertIn("no finite price at 1: 1 to 2 traded at exactly 0", ran.told)
 
@@ -209,20 +209,20 @@ class Told(unittest.TestCase):
             ("extrapolation: on\n0\n28 0.62\n56 59.03\n85 47.69\nat -3 0 90\n", f"{name} holds all prices at 0 or above"),
         ):
             with self.subTest(text=text):
-                told = run("-", text=text).told.splitlines()
+                told = run_gas("-", text=text).told.splitlines()
                 self.assertEqual([line for line in told if "safe" in line], told[-1:] if last else [])
                 self.assertTrue(last is None or told[-1] == last, told)
 
     def test_the_safe_split_has_nothing_to_tell(self):
         for text in "0\n1 2\n2 0\n3 2\nat 0 1 1.5 2\n", "0\n28 0.62\n56 59.03\n85 47.69\nevery 1\n", "hold last period: on\n0\n1 0\n2 3\n3 -0.0\nat 3\n":
-            ran = run("-", text=f"split: safe\n{text}")
+            ran = run_gas("-", text=f"split: safe\n{text}")
             self.assertEqual((ran.status, ran.told, ran.out.splitlines()[-1]), (0, "", "all 3 averages kept"))
-        ran = run("-", text="split: safe\nquadraticity: 0\nmonotonicity: 1\n0\n1 2\n2 1\n3 1\nat 1\n")
+        ran = run_gas("-", text="split: safe\nquadraticity: 0\nmonotonicity: 1\n0\n1 2\n2 1\n3 1\nat 1\n")
         self.assertIn("standard input:6: no finite price at 1: 1 to 2 traded as its neighbour did, at monotonicity 1\n", ran.told)
 
     def test_many_lines_are_counted(self):
         text = "".join(f"{k} {k + 1} -1\n" for k in range(30)) + "at 0\n"
-        ran = run("-", text=text)
+        ran = run_gas("-", text=text)
         self.assertIn("standard input: and 18 more averages at or below 0\n", ran.told)
 
 
@@ -242,16 +242,16 @@ class Refused(unittest.TestCase):
         ]
         for text, said in cases:
             with self.subTest(text=text[:60]):
-                ran = run("-", text=text)
+                ran = run_gas("-", text=text)
                 self.assertEqual((ran.status, ran.out, ran.told.splitlines()[0]), (1, "", f"standard input{said}"))
 
     def test_an_average_below_0_with_the_safe_split(self):
         """The line of the average, in the library's words and in the desk's own. Without positivity it is answered."""
         words = "refused: an average is below 0, and no curve at or above 0 can keep it, as the safe split promises (refusal 29)"
-        ran = run("-", text="split: safe\n2026-10 3\n# cheap\n2026-11 -0.5\n2026-12 -1\ndaily\n")
+        ran = run_gas("-", text="split: safe\n2026-10 3\n# cheap\n2026-11 -0.5\n2026-12 -1\ndaily\n")
         traded = "2026-11-01 to 2026-12-01 traded at -0.5000; 'positivity: off' is for averages below 0"
         self.assertEqual(ran, (1, "", f"standard input:4: {words}\nstandard input:4: {traded}\n"))
-        self.assertEqual(run("-", text="split: safe\npositivity: off\n2026-10 3\n2026-11 -0.5\ndaily\n").status, 0)
+        self.assertEqual(run_gas("-", text="split: safe\npositivity: off\n2026-10 3\n2026-11 -0.5\ndaily\n").status, 0)
         file = example("power-negative-positivity.txt")
         ran = run("--set", "split: safe", file)
         self.assertEqual((ran.status, ran.out, ran.told.splitlines()[0]), (1, "", f"{file}:11: {words}"))
@@ -264,7 +264,7 @@ class Refused(unittest.TestCase):
 class Large(unittest.TestCase):
     def test_4095_periods_and_40000_rows(self):
         text = "".join(f"{k} {k + 1} {20 + k % 7}\n" for k in range(4095)) + "every 0.1024\n"
-        ran = run("-", text=text)
+        ran = run_gas("-", text=text)
         self.assertEqual((ran.status, ran.told, ran.out.splitlines()[-1]), (0, "", "all 4095 averages kept"))
         self.assertEqual(len(table_rows(ran.out)), 39991)
 

@@ -17,7 +17,7 @@ from havgrunel.csvfile import read_csv
 from havgrunel.faults import Stop
 from havgrunel.tables import printed
 from havgrunel.text import read_order
-from runs import EXAMPLES, HOME, ORDER, InAFolder, example, run, start, table_rows
+from runs import EXAMPLES, HOME, ORDER, InAFolder, example, run, run_gas, start, table_rows
 
 WINTER = example("winter-gas.txt")
 SHORT = "0\n1 2\nat 0\n"
@@ -25,7 +25,7 @@ SHORT = "0\n1 2\nat 0\n"
 
 class Statuses(InAFolder):
     def test_0_answered(self):
-        ran = run("-", text=SHORT)
+        ran = run_gas("-", text=SHORT)
         self.assertEqual((ran.status, ran.told), (0, ""))
         self.assertEqual(ran.out.splitlines()[-1], "the average is kept")
 
@@ -72,18 +72,56 @@ class Tables(InAFolder):
         lines = run(WINTER).out.splitlines()
         self.assertEqual(lines[3], "day          average   price at its start   running total at its end")
 
-    def test_the_heading_tells_the_split(self):
-        settings = "quadraticity 0, monotonicity 0.7, positivity"
+    def test_the_heading_tells_the_settings(self):
+        """First what the order sets, then the rest, with the default that it is of. A split, a held period and extrapolation stand there where they are set."""
         for text, head in (
-            ("", f"1 period, {settings} on"),
-            ("split: original\n", f"1 period, {settings} on"),
-            ("split: careful\n", f"1 period, {settings} on, careful split"),
-            ("split: safe\n", f"1 period, {settings} on, safe split"),
-            ("split: Careful\npositivity: off\nhold last period: on\n", f"1 period, {settings} off, careful split, hold last period on"),
+            ("", "default: quadraticity 0.3, monotonicity 0.7, positivity off"),
+            ("settings: Default\nsplit: original\n", "default: quadraticity 0.3, monotonicity 0.7, positivity off"),
+            ("settings: gas\n", "gas default: quadraticity 0.3, monotonicity 0.7, positivity on"),
+            ("settings: GAS\nquadraticity: 0\n", "quadraticity 0; gas default: monotonicity 0.7, positivity on"),
+            ("quadraticity: 0.3\nsplit: careful\nsettings: gas\n", "quadraticity 0.3, careful split; gas default: monotonicity 0.7, positivity on"),
+            ("positivity: on\nsplit: safe\n", "positivity on, safe split; default: quadraticity 0.3, monotonicity 0.7"),
+            ("positivity: off\nsettings: gas\n", "positivity off; gas default: quadraticity 0.3, monotonicity 0.7"),
+            ("settings: gas\nquadraticity: 1\nmonotonicity: 0\npositivity: off\n", "quadraticity 1, monotonicity 0, positivity off"),
+            ("split: Careful\npositivity: off\nhold last period: on\n", "positivity off, careful split, hold last period on; default: quadraticity 0.3, monotonicity 0.7"),
         ):
             with self.subTest(text=text):
-                self.assertEqual(run("-", text=f"{text}quadraticity: 0\n{SHORT}").out.splitlines()[0], head)
-        self.assertEqual(run("--set", "split: careful", example("desk", "gas-months.csv")).out.splitlines()[0], "6 periods, quadraticity 0.3, monotonicity 0.7, positivity on, careful split")
+                told = run("-", text=f"{text}{SHORT}").out.splitlines()[0]
+                self.assertEqual(told, f"1 period{'; ' if head.partition('default:')[0] in ('', 'gas ') else ', '}{head}")
+        file = example("desk", "gas-months.csv")
+        self.assertEqual(run_gas("--set", "split: careful", file).out.splitlines()[0], "6 periods, careful split; gas default: quadraticity 0.3, monotonicity 0.7, positivity on")
+
+    def test_positivity_that_nothing_sets(self):
+        """It is told on standard error, in whatever way the answer is shown, until a default or positivity is set."""
+        said = "standard input: positivity is not set, and is off by the default; 'settings: gas' has it on\n"
+        for words in ["-"], ["--exact", "-"], ["--csv", "-", "-"], ["--tsv", "-", "-"], ["--plot", "-", "-"], ["--bytes", self.path("a.order"), "-"]:
+            with self.subTest(words=words):
+                self.assertEqual(run(*words, text=SHORT)[::2], (0, said))
+                self.assertEqual(run(*words, text=f"quadraticity: 0\n{SHORT}")[::2], (0, said))
+                for setting in "settings: default", "settings: gas", "positivity: off", "positivity: on":
+                    self.assertEqual(run(*words, text=f"{setting}\n{SHORT}")[::2], (0, ""))
+                    self.assertEqual(run("--set", setting, *words, text=SHORT)[::2], (0, ""))
+        table = self.written("a.csv", "2026-10,3\n2026-11,4\n")
+        self.assertEqual(run(table).told, said.replace("standard input", table))
+        self.assertEqual(run_gas(table).told, "")
+
+    def test_a_split_without_positivity(self):
+        """It does nothing, and an order from before the second default asked for something by it."""
+        for split in "careful", "safe":
+            off = f"standard input:2: a {split} split does nothing while positivity is off\n"
+            self.assertEqual(run("-", text=f"positivity: off\nsplit: {split}\n{SHORT}").told, off)
+            said = run("-", text=f"\nsplit: {split}\n{SHORT}")
+            self.assertEqual((said.status, said.told.splitlines(keepends=True)[1:]), (0, [off]))
+            self.assertEqual(run_gas("-", text=f"\nsplit: {split}\n{SHORT}").told, "")
+            option = f"standard input: --set 'split: {split}': a {split} split does nothing while positivity is off\n"
+            self.assertEqual(run("--set", f"split: {split}", "-", text=f"positivity: off\n{SHORT}").told, option)
+
+    def test_the_two_defaults_differ_in_positivity_alone(self):
+        """An order of before has its old answers by the gas default, and those of positivity off without it."""
+        table = "0\n4 38\n8 45\n12 12\n16 2\n20 64\n24 52\nhourly\n"
+        rows = {setting: run("--exact", "-", text=f"{setting}\n{table}").out.splitlines()[1:] for setting in ("", "settings: gas", "positivity: on", "positivity: off")}
+        self.assertEqual((rows[""], rows["settings: gas"]), (rows["positivity: off"], rows["positivity: on"]))
+        self.assertNotEqual(rows[""], rows["settings: gas"])
 
     def test_the_careful_split_on_the_command_line(self):
         self.assertEqual(run("--set", "split: careful", example("falling-month-splits.txt")), run(example("falling-month-careful.txt")))
@@ -146,9 +184,9 @@ class Files(InAFolder):
         for option, name in ("--csv", "a.csv"), ("--tsv", "a.tsv"), ("--plot", "a.svg"), ("--bytes", "a.order"):
             with self.subTest(option=option):
                 order = self.written("order.txt", SHORT)
-                self.assertEqual(run(option, self.path(name), order), (0, "", ""))
+                self.assertEqual(run_gas(option, self.path(name), order), (0, "", ""))
                 first = self.read(name)
-                self.assertEqual(run(option, self.path(name), order), (0, "", ""))
+                self.assertEqual(run_gas(option, self.path(name), order), (0, "", ""))
                 self.assertEqual(self.read(name), first)
 
     def test_over_nothing_else(self):
@@ -206,7 +244,7 @@ class Files(InAFolder):
         self.assertEqual(run("--bytes", "-", "--set", "split: careful", "-", text=SHORT), (2, "", f"standard input: --set 'split: careful': {said}\n"))
         many = "split: careful\n" + "".join(f"{k} {k + 1} 1\n" for k in range(200)) + "at 0\n"
         self.assertEqual(run("--bytes", "-", "-", text=many), (2, "", f"standard input:1: {said}\n"))
-        plain, original = (run("--bytes", self.path(name), self.written("order.txt", f"{text}{SHORT}")) for name, text in (("b.order", ""), ("c.order", "split: original\n")))
+        plain, original = (run_gas("--bytes", self.path(name), self.written("order.txt", f"{text}{SHORT}")) for name, text in (("b.order", ""), ("c.order", "split: original\n")))
         self.assertEqual((plain, original, self.read("b.order")), ((0, "", ""), (0, "", ""), self.read("c.order")))
         self.assertEqual(run("--bytes", self.path("b.order"), careful).status, 2)
         self.assertEqual(self.read("b.order"), self.read("c.order"))

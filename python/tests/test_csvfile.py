@@ -147,14 +147,16 @@ class Out(InAFolder):
         for name in names:
             with self.subTest(file=name):
                 ask = ["--ask", "hourly"] if name == "power-blocks.csv" else []
-                self.assertEqual(run("--csv", self.path("out.csv"), *ask, example("desk", name)), (0, "", ""))
+                named = {"gas-months.csv": ["--set", "settings: gas"], "seasons.tsv": ["--set", "settings: gas"], "quarters-and-seasons.txt": []}
+                off = f"{example('desk', name)}: positivity is not set, and is off by the default; 'settings: gas' has it on\n"
+                ran = run("--csv", self.path("out.csv"), *ask, *named.get(name, []), example("desk", name))
+                self.assertEqual(ran, (0, "", "" if name in named else off))
                 _, *rows = self.rows("out.csv")
                 # Each row's average is a period of the file as it is read again, to the last bit.
                 with open(self.path("out.csv"), "rb") as file:
                     again = read(file.read())
                 self.assertEqual(struct.pack(f"{len(rows)}d", *again.averages[1:]), struct.pack(f"{len(rows)}d", *(float(row[2]) for row in rows)))
-                more = ["--set", "positivity: off"] if name == "week-of-power.txt" else []
-                ran = run(*more, self.path("out.csv"))
+                ran = run(*named.get(name, []), self.path("out.csv"))
                 self.assertEqual((ran.status, ran.out.splitlines()[-1]), (0, f"all {len(rows)} averages kept"))
 
     def test_pandas_reads_it_as_it_is(self):

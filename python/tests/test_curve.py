@@ -69,10 +69,17 @@ class Building(Refusing):
         self.refused(8, None, Curve, *THREE, seam=(2, 1.0))
 
     def test_the_settings_that_are_left_out(self):
-        self.assertEqual(Method(), Method(0.3, 0.7, True))
+        self.assertEqual(Method(), Method(0.3, 0.7, False))
         self.assertEqual(Curve([0, 1], [0, 1]).method, Method())
-        self.assertEqual(Method(monotonicity=1), Method(0.3, 1.0, True))
-        self.assertEqual((Method().split, Method(0.3, 0.7, True, "original")), ("original", Method()))
+        self.assertEqual(Method(monotonicity=1), Method(0.3, 1.0, False))
+        self.assertEqual((Method().split, Method(0.3, 0.7, False, "original")), ("original", Method()))
+
+    def test_the_gas_default(self):
+        self.assertEqual(Method.gas(), Method(0.3, 0.7, True, "original"))
+        self.assertEqual(Method.gas(quadraticity=0, split="safe"), Method(0.0, 0.7, True, "safe"))
+        self.assertEqual(Method.gas(positivity=False), Method())
+        with self.assertRaisesRegex(TypeError, "convexity"):
+            Method.gas(convexity=1)
 
     def test_what_was_given_is_copied(self):
         knots, averages = array("d", THREE[0]), array("d", THREE[1])
@@ -241,7 +248,7 @@ class Splits(unittest.TestCase):
         return [(s.primitive(s.x_next) - s.primitive(s.x_prev)) / (s.x_next - s.x_prev) for s in curve.sections]
 
     def test_the_falling_month(self):
-        original, careful = (Curve(*FALLING, Method(quadraticity=0.0, split=split)) for split in ("original", "careful"))
+        original, careful = (Curve(*FALLING, Method.gas(quadraticity=0.0, split=split)) for split in ("original", "careful"))
         self.assertEqual((original.nodes[1:3], careful.nodes), (array("d", [4.0, 1.0]), original.nodes))
         self.assertEqual([s.kind for s in careful.sections], [s.kind for s in original.sections])
         self.assertEqual(([s.split for s in original.sections[:2]], [s.split for s in careful.sections[:2]]), ([True, True], [False, False]))
@@ -253,7 +260,7 @@ class Splits(unittest.TestCase):
         """A period from 4 to 4 that averages 1 falls below 0. Both split it, to the same section."""
         table = [0.0, 1.0, 2.0, 3.0], [0.0, 7.0, 1.0, 7.0]
         for quadraticity in 0.0, 0.3, 1.0:
-            original, careful = (Curve(*table, Method(quadraticity, split=split)).sections[1] for split in ("original", "careful"))
+            original, careful = (Curve(*table, Method.gas(quadraticity=quadraticity, split=split)).sections[1] for split in ("original", "careful"))
             self.assertEqual((original, original.split), (careful, True))
 
     def test_a_curve_that_nothing_splits_is_the_same(self):
@@ -270,7 +277,7 @@ class Splits(unittest.TestCase):
     def test_averages_that_are_kept(self):
         for seed in range(200):
             knots, averages = drawn(seed, 12)
-            curve = Curve(knots, averages, Method(0.0, (seed % 10) / 10, split="careful"))
+            curve = Curve(knots, averages, Method(0.0, (seed % 10) / 10, True, "careful"))
             for held, traded in zip(self.held(curve), averages[1:]):
                 self.assertAlmostEqual(held, traded, delta=1e-9 * max(averages))
             self.assertGreaterEqual(min(curve.values([knots[-1] * k / 500 for k in range(500)])), -1e-9 * max(averages))
@@ -279,7 +286,7 @@ class Splits(unittest.TestCase):
         """The end node is at 0, rounding fails the second test, and neither mode splits."""
         table = [0, 28, 56, 85], [0, 0.62, 59.03, 47.69]
         for quadraticity in 0.3, 1.0:
-            original, careful = (Curve(*table, Method(quadraticity, split=split)) for split in ("original", "careful"))
+            original, careful = (Curve(*table, Method.gas(quadraticity=quadraticity, split=split)) for split in ("original", "careful"))
             self.assertEqual(original.sections, careful.sections)
             self.assertLess(careful.value(9), -2.7)
 
@@ -287,14 +294,14 @@ class Splits(unittest.TestCase):
         """An average below 0: the careful split leaves the parabola whole and changes no convex monotone piece."""
         table = [0.0, 1.0, 2.0, 3.0], [0.0, 3.0, -1.0, 3.0]
         for quadraticity in 0.0, 0.3:
-            original, careful = (Curve(*table, Method(quadraticity, split=split)).sections[1] for split in ("original", "careful"))
+            original, careful = (Curve(*table, Method.gas(quadraticity=quadraticity, split=split)).sections[1] for split in ("original", "careful"))
             self.assertTrue(original.tag & careful.tag & 1 << 7)
             # The slots behind the weight and the parabola's twelve are those of the other part.
             self.assertEqual(bits(original.slots[13:]), bits(careful.slots[13:]))
             self.assertEqual((bool(original.tag & 1 << 12), bool(careful.tag & 1 << 12)), (quadraticity > 0, False))
 
     def test_growth_and_sheets_keep_the_mode(self):
-        method = Method(quadraticity=0.0, split="careful")
+        method = Method.gas(quadraticity=0.0, split="careful")
         for seed in range(10):
             knots, averages = drawn(seed, 30)
             whole = Curve(knots, averages, method)
@@ -306,7 +313,7 @@ class Splits(unittest.TestCase):
         self.assertEqual(grown.sections, Curve(FALLING[0][:3], FALLING[1][:3], method, hold=True).sections)
         grown = grown.grow(*FALLING, 2, 4)
         self.assertEqual((grown.method, [s.split for s in grown.sections[:2]]), (method, [False, False]))
-        other = Curve.first_window(FALLING[0][:3], FALLING[1][:3], 2, 4, Method(quadraticity=0.0)).grow(*FALLING, 2, 4)
+        other = Curve.first_window(FALLING[0][:3], FALLING[1][:3], 2, 4, Method.gas(quadraticity=0.0)).grow(*FALLING, 2, 4)
         self.assertEqual([s.split for s in other.sections[:2]], [True, True])
 
 
@@ -376,7 +383,7 @@ class Objects(unittest.TestCase):
 
     def test_repr(self):
         self.assertEqual(repr(Curve(*THREE)), "<Curve of 2 periods from 0 to 2, quadraticity 0, monotonicity 1, positivity off>")
-        careful = Curve(*FALLING, Method(split="careful"))
+        careful = Curve(*FALLING, Method.gas(split="careful"))
         self.assertEqual(repr(careful), "<Curve of 3 periods from 0 to 2.25, quadraticity 0.3, monotonicity 0.7, positivity on, careful split>")
 
     def test_a_curve_does_not_change(self):

@@ -61,10 +61,10 @@ class Documents(unittest.TestCase):
         """Lines of a document that begin as a message about an example are told by the command."""
         for document in DOCUMENTS:
             with open(os.path.join(HOME, document), encoding="utf-8") as file:
-                found = re.findall(r"^    (examples/[\w./-]+):(\d+)(: .*)$", file.read(), re.MULTILINE)
-            for name, line, what in found:
-                with self.subTest(document=document, line=f"{name}:{line}{what}"):
-                    self.assertIn(f"{name}:{line}{what}", printed([name]))
+                found = re.findall(r"^    ((examples/[\w./-]+)(?::\d+)?: .*)$", file.read(), re.MULTILINE)
+            for line, name in found:
+                with self.subTest(document=document, line=line):
+                    self.assertIn(line, printed([name]))
 
     def test_lowest_and_highest_days(self):
         """The two tables of SHAPES.md that compare settings tell days of the steep winter."""

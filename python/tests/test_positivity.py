@@ -28,15 +28,15 @@ class Positivity(unittest.TestCase):
         for split in "original", "careful", "safe":
             for quadraticity, lowest in (0.0, 0.0), (0.3, -2.7358), (1.0, -9.1195):
                 lowest = 0.0 if split == "safe" else lowest
-                curve = Curve(self.KNOTS, self.AVERAGES, Method(quadraticity=quadraticity, split=split))
+                curve = Curve(self.KNOTS, self.AVERAGES, Method.gas(quadraticity=quadraticity, split=split))
                 prices = curve.values([28 * k / 10000 for k in range(10001)])
                 self.assertEqual(round(min(prices), 4), lowest)
                 section = curve.sections[0]
                 self.assertAlmostEqual(section.primitive(28.0) / 28, 0.62, places=12)
 
     def test_a_month_more_changes_no_other_month(self) -> None:
-        curve = Curve(self.KNOTS, self.AVERAGES)
-        longer = Curve([-28, *self.KNOTS], [0, 0.62, *self.AVERAGES[1:]])
+        curve = Curve(self.KNOTS, self.AVERAGES, Method.gas())
+        longer = Curve([-28, *self.KNOTS], [0, 0.62, *self.AVERAGES[1:]], Method.gas())
         later = [28 + k / 8 for k in range(57 * 8 + 1)]
         self.assertEqual(curve.values(later), longer.values(later))
         self.assertEqual(min(longer.values([k / 64 for k in range(28 * 64)])), 0.0)
@@ -98,9 +98,9 @@ class Positivity(unittest.TestCase):
                 self.assertTrue(split != "safe" or seen.lowest_part >= -1e-12 and seen.most_part < 1e-11)
 
     def test_months_alike(self) -> None:
-        """Three months at one price, at the defaults: rounding splits March, by the original split alone."""
+        """Three months at one price, at the gas default: rounding splits March, by the original split alone."""
         for split, due in ("original", 72.1324), ("careful", 85.42), ("safe", 85.42):
-            march = Curve([0, 28, 59, 89], [0, 85.42, 85.42, 85.42], Method(split=split)).sections[1]
+            march = Curve([0, 28, 59, 89], [0, 85.42, 85.42, 85.42], Method.gas(split=split)).sections[1]
             self.assertEqual(round((march.primitive(59.0) - march.primitive(28.0)) / 31, 4), due)
 
 

@@ -56,7 +56,7 @@ class Safe(unittest.TestCase):
 
     def test_the_cheap_first_month(self):
         for quadraticity in 0.0, 0.3, 1.0:
-            careful, safe = (Curve(*CHEAP, Method(quadraticity, split=split)) for split in ("careful", "safe"))
+            careful, safe = (Curve(*CHEAP, Method.gas(quadraticity=quadraticity, split=split)) for split in ("careful", "safe"))
             self.assertEqual((bits(careful.nodes), careful.tail, [s.kind for s in careful.sections]), (bits(safe.nodes), safe.tail, [s.kind for s in safe.sections]))
             self.assertEqual(min(safe.values(range(86))), 0.0)
             self.assertEqual((careful.value(9) < 0, careful.sections[1:] == safe.sections[1:]), (quadraticity > 0, True))
@@ -68,7 +68,7 @@ class Safe(unittest.TestCase):
         for zero in 0.0, -0.0:
             for quadraticity in 0.0, 0.3, 1.0:
                 averages = [average or zero for average in FREE[1]]
-                curve = Curve(FREE[0], averages, Method(quadraticity, split="safe"))
+                curve = Curve(FREE[0], averages, Method.gas(quadraticity=quadraticity, split="safe"))
                 for section in curve.sections[3], curve.sections[5]:
                     self.assertEqual((section.kind, section.split, section.f_next), ("EverywhereConstant", False, 0.0))
                     xs = [section.x_prev + k for k in range(30)]
@@ -80,20 +80,20 @@ class Safe(unittest.TestCase):
         for k in range(1, 7):
             averages = [average if j != k else -5e-324 for j, average in enumerate(FREE[1])]
             with self.assertRaises(Refused) as caught:
-                Curve(FREE[0], averages, Method(split="safe"))
+                Curve(FREE[0], averages, Method.gas(split="safe"))
             self.assertEqual((caught.exception.number, caught.exception.name, caught.exception.index), (29, "AVERAGE_BELOW_ZERO", k))
-            for method in Method(), Method(split="careful"), Method(positivity=False, split="safe"):
+            for method in Method(), Method.gas(), Method.gas(split="careful"), Method(split="safe"):
                 Curve(FREE[0], averages, method)
             for build in Curve.in_sheets, lambda *table: Curve.first_window(table[0], table[1], 6, 9, table[3]):
                 with self.assertRaisesRegex(Refused, f"can keep it, as the safe split promises .refusal 29, index {k}.$"):
-                    build(FREE[0], averages, [2, 4], Method(split="safe"))
+                    build(FREE[0], averages, [2, 4], Method.gas(split="safe"))
         # The first is not read.
-        self.assertEqual(Curve(FREE[0], [-3.0, *FREE[1][1:]], Method(split="safe")).sections, Curve(*FREE, Method(split="safe")).sections)
+        self.assertEqual(Curve(FREE[0], [-3.0, *FREE[1][1:]], Method.gas(split="safe")).sections, Curve(*FREE, Method.gas(split="safe")).sections)
         # What is wrong with the table besides comes first.
         for knots, averages, method, number in (
-            ([0, 1, 1], [0, -1, 1], Method(split="safe"), 7),
-            ([0, 1, 2], [0, -1, math.nan], Method(split="safe"), 6),
-            ([0, 1, 2], [0, -1, 1], Method(quadraticity=2, split="safe"), 3),
+            ([0, 1, 1], [0, -1, 1], Method.gas(split="safe"), 7),
+            ([0, 1, 2], [0, -1, math.nan], Method.gas(split="safe"), 6),
+            ([0, 1, 2], [0, -1, 1], Method.gas(quadraticity=2, split="safe"), 3),
         ):
             with self.assertRaises(Refused) as caught:
                 Curve(knots, averages, method)
@@ -110,13 +110,13 @@ class Safe(unittest.TestCase):
     def test_next_to_nothing_is_flat(self):
         """A period that traded at less than a 10^12th of its neighbours is flat at its average, which it keeps. The others have a jump as it begins."""
         for quadraticity in 0.0, 0.3, 1.0:
-            curve = Curve([0, 1, 2, 3], [0, 50.0, 1e-13, 50.0], Method(quadraticity, split="safe"))
+            curve = Curve([0, 1, 2, 3], [0, 50.0, 1e-13, 50.0], Method.gas(quadraticity=quadraticity, split="safe"))
             self.assertFalse(curve.sections[1].split)
             for x in 1.0, 1.25, 1.5, 1.999:
                 self.assertTrue(0.9e-13 < curve.value(x) < 1.1e-13, (quadraticity, x, curve.value(x)))
 
     def test_growth_and_sheets_keep_the_mode(self):
-        draw, method = random.Random(11), Method(0.3, split="safe")
+        draw, method = random.Random(11), Method.gas(split="safe")
         for _ in range(30):
             knots, averages, _ = drawn(draw)
             whole = Curve(knots, averages, method)
@@ -131,7 +131,7 @@ class Safe(unittest.TestCase):
             self.assertAlmostEqual(one, traded, 11)
 
     def test_words(self):
-        curve = Curve(*CHEAP, Method(split="safe"))
+        curve = Curve(*CHEAP, Method.gas(split="safe"))
         self.assertEqual(repr(curve), "<Curve of 3 periods from 0 to 85, quadraticity 0.3, monotonicity 0.7, positivity on, safe split>")
 
 

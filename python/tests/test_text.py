@@ -12,7 +12,7 @@ POINT_SIGN = "the decimal sign is a point, and digits are not grouped"
 FIRST = "the first knot has an average, and no period ends there"
 NAMES = "a line is a period and its price, or START END PRICE; periods are 2026-10, Oct-26, 2026-Q4, Q4-26, winter 2026, Win-26, summer 2027, Sum-27, 2027, Cal-27"
 NOTHING = "nothing is asked: a line 'daily', 'hourly', 'every STEP', or 'at' with points, is missing"
-SETTINGS = "title, price, time, quadraticity, monotonicity, positivity, split, hold last period, extrapolation, first average"
+SETTINGS = "title, price, time, settings, quadraticity, monotonicity, positivity, split, hold last period, extrapolation, first average"
 
 # What is wrong with a text, where that is said, and how.
 BAD = [
@@ -100,6 +100,11 @@ BAD = [
     ("split: careful\n\nSplit: original\n", 3, "'split' is set twice, first in line 1"),
     ("split careful\n0\n1 2\n", 1, "'split' is a setting, and a colon stands behind it: split: careful"),
     ("0\nsplit: careful\n1 2\nat 0\n", 2, "settings come before the first knot"),
+    ("settings: power\n", 1, "'power' is neither 'default' nor 'gas'"),
+    ("settings:\n", 1, "'' is neither 'default' nor 'gas'"),
+    ("settings: gas\n\nSettings: default\n", 3, "'settings' is set twice, first in line 1"),
+    ("settings gas\n0\n1 2\n", 1, "'settings' is a setting, and a colon stands behind it: settings: gas"),
+    ("0\nsettings: gas\n1 2\nat 0\n", 2, "settings come before the first knot"),
     ("title:\n", 1, "the setting has no value"),
     ("quadraticity:\n", 1, "'' is not a number"),
     ("convexity: 1\n", 1, f"there is no setting 'convexity'; there are: {SETTINGS}"),
