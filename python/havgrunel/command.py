@@ -7,7 +7,7 @@ asked:
     title: Gas, winter 2026/27   # every setting may be left out
     price: EUR/MWh               # the unit of a price
     time: days                   # what a knot counts, where it is a number
-    settings: gas                # or default: of what is left out below
+    settings: gas                # or default: gives what the text leaves out
     quadraticity: 0.3            # from 0 to 1
     monotonicity: 0.7            # from 0 to 1
     positivity: on               # on or off

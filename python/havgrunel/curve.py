@@ -33,7 +33,7 @@ def _default(setting: str) -> Any:
 
 
 # When positivity splits a parabola, each by its number in c/havgrunel.h: wherever the two tests of the original pass; only where the period then keeps its
-# average; or where it would fall below 0, whatever rounding does. The first is the default.
+# average; or where it would fall below 0, whatever rounding does. Both defaults have the first.
 SPLITS = ("original", "careful", "safe")
 
 

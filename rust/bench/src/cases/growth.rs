@@ -5,7 +5,7 @@ use std::hint::black_box;
 
 use oracle::{AT_HAND, plain};
 
-use super::USUAL;
+use super::GAS;
 use crate::ours::{Room, method};
 use crate::report::Report;
 use crate::same;
@@ -27,7 +27,7 @@ fn ours(
         let part = (&table.knots[..points], &table.averages[..points]);
         let from = previous.map(|curve| (&*old, curve));
         let curve = new
-            .grow(method(&USUAL), part, LOCALISATION, from, table.points())
+            .grow(method(&GAS), part, LOCALISATION, from, table.points())
             .expect("a winter grows");
         see(points, new, curve);
         previous = Some(curve);
@@ -42,7 +42,7 @@ fn theirs(table: &Table, mut see: impl FnMut(&plain::Curve)) {
         let (knots, averages) = (&table.knots[..points], &table.averages[..points]);
         let from = previous.as_ref();
         let size = table.points();
-        let curve = plain::grow(&USUAL, knots, averages, LOCALISATION, from, size)
+        let curve = plain::grow(&GAS, knots, averages, LOCALISATION, from, size)
             .unwrap_or_else(|_| panic!("the original grows a winter"));
         see(&curve);
         previous = Some(curve);
@@ -56,12 +56,12 @@ fn check(table: &Table, rooms: &mut [Room; 2]) {
         let (knots, averages) = (&table.knots[..points], &table.averages[..points]);
         let size = table.points();
         let from = told.as_ref();
-        let other = oracle::grow(&USUAL, knots, averages, LOCALISATION, from, size);
+        let other = oracle::grow(&GAS, knots, averages, LOCALISATION, from, size);
         let other = other.expect("the original grows a winter");
         let from = measured.as_ref();
-        let bare = plain::grow(&USUAL, knots, averages, LOCALISATION, from, size);
+        let bare = plain::grow(&GAS, knots, averages, LOCALISATION, from, size);
         let bare = bare.unwrap_or_else(|_| panic!("the original grows a winter"));
-        same::curves("growth", &USUAL, knots, (room, &curve), (&other, &bare));
+        same::curves("growth", &GAS, knots, (room, &curve), (&other, &bare));
         told = Some(other);
         measured = Some(bare);
     });

@@ -10,8 +10,8 @@ pub mod root;
 /// The sizes of table that are measured: a year of months, five years, a year of trading days and more, and the most that is taken.
 pub const SIZES: [usize; 4] = [13, 61, 400, 4096];
 
-/// The settings that the method has where nothing else is asked for.
-const USUAL: Settings = Settings {
+/// The gas default, which is what the original takes when no settings are named.
+const GAS: Settings = Settings {
     quadraticity: 0.3,
     monotonicity: 0.7,
     positivity: true,

@@ -6,7 +6,7 @@ use std::hint::black_box;
 use oracle::answers::rng::Rng;
 use oracle::{AT_HAND, plain};
 
-use super::{SIZES, USUAL};
+use super::{GAS, SIZES};
 use crate::ours::{Built, method};
 use crate::report::Report;
 use crate::same;
@@ -65,7 +65,7 @@ fn places(table: &Table, count: usize) -> Vec<f64> {
 
 fn original(table: &Table) -> Option<plain::Curve> {
     AT_HAND.then(|| {
-        plain::build(&USUAL, &table.knots, &table.averages)
+        plain::build(&GAS, &table.knots, &table.averages)
             .unwrap_or_else(|_| panic!("the original builds a winter"))
     })
 }
@@ -79,7 +79,7 @@ pub fn single(report: &mut Report) {
             }
             let table = winter(points);
             let places = places(&table, SINGLE);
-            let built = Built::new(method(&USUAL), &table);
+            let built = Built::new(method(&GAS), &table);
             let original = original(&table);
             if let Some(original) = &original {
                 let ours = places.iter().map(|&x| asked.ours(&built, x));
@@ -120,7 +120,7 @@ pub fn many(report: &mut Report) {
             if !report.wants(&name) {
                 continue;
             }
-            let built = Built::new(method(&USUAL), &table);
+            let built = Built::new(method(&GAS), &table);
             let original = original(&table);
             let mut answers = vec![0.0; places.len()];
             let mut others = vec![0.0; places.len()];
