@@ -5,7 +5,7 @@ import math
 import re
 from dataclasses import dataclass, field
 from fractions import Fraction
-from typing import Callable, Dict, List, Optional, Sequence, Tuple, Union
+from typing import Callable, Collection, Dict, List, Optional, Sequence, Tuple, Union
 
 from .curve import SPLITS
 from .faults import Bad, Stop, clipped, quoted
@@ -123,16 +123,15 @@ def switch(value: str) -> bool:
     return value.lower() == "on"
 
 
-def split_rule(value: str) -> str:
-    if value.lower() not in SPLITS:
-        raise Bad(f"{quoted(value)} is neither {' nor '.join(map(quoted, SPLITS))}")
-    return value.lower()
+def one_of(names: Collection[str]) -> Callable[[str], str]:
+    """How one of these words is read."""
 
+    def read(value: str) -> str:
+        if value.lower() not in names:
+            raise Bad(f"{quoted(value)} is neither {' nor '.join(map(quoted, names))}")
+        return value.lower()
 
-def named_default(value: str) -> str:
-    if value.lower() not in DEFAULTS:
-        raise Bad(f"{quoted(value)} is neither {' nor '.join(map(quoted, DEFAULTS))}")
-    return value.lower()
+    return read
 
 
 def not_read(value: str) -> str:
@@ -156,11 +155,11 @@ SETTINGS: Dict[str, Tuple[Callable[[str], object], object]] = {
     "title": (words, ""),
     "price": (words, ""),
     "time": (words, ""),
-    "settings": (named_default, "default"),
+    "settings": (one_of(DEFAULTS), "default"),
     "quadraticity": (figure, DEFAULTS["default"]["quadraticity"]),
     "monotonicity": (figure, DEFAULTS["default"]["monotonicity"]),
     "positivity": (switch, DEFAULTS["default"]["positivity"]),
-    "split": (split_rule, DEFAULTS["default"]["split"]),
+    "split": (one_of(SPLITS), DEFAULTS["default"]["split"]),
     "hold last period": (switch, False),
     "extrapolation": (switch, False),
     "first average": (not_read, ""),
