@@ -244,8 +244,8 @@ def told(lines: List[str], order: Order, what: str) -> List[str]:
 
 
 def left_out(order: Order) -> List[str]:
-    """Where neither positivity nor a default is set, that it is off: it was on once, and an order of that time must not change its meaning unseen. And
-    where another split than the original's is set, that it does nothing then."""
+    """What is told of positivity that is off. Where an order sets neither it nor a default: that it is off by the default, which had it on once, so that an
+    order of that time does not change its meaning unseen. And where a careful or safe split is set: that it does nothing."""
     s, lines = order.settings, []
     if "positivity" not in order.setting_lines and "settings" not in order.setting_lines:
         lines.append(f"{order.name}: positivity is not set, and is off by the default; 'settings: gas' has it on")

@@ -306,7 +306,7 @@ def read_asked(order: Order, text: str, line: Line) -> Union[Points, Rows]:
 
 
 def begin(name: str, sets: Sequence[str]) -> Order:
-    """An order with the defaults, and with the settings of the command line."""
+    """An order by the default, and with the settings of the command line."""
     order = Order(name, {key: default for key, (_, default) in SETTINGS.items()})
     for text in sets:
         line = f"--set {quoted(text)}"
