@@ -1,5 +1,6 @@
 pub mod Places
 pub mod ReadBack
+pub mod Knots
 pub mod Rows
 pub mod Sizes
 pub mod Unique

@@ -7,49 +7,16 @@ use mathlib.Core.Path.{_≡_, refl, sym, ap, _∙_}
 use lib.Ieee.{Float, nan}
 use lib.ListN.{length, take, drop, getD, length-drop}
 use lib.Seq.{length-take-le, getD-take, getD-drop, ext-getD}
-use Rattle.numbers.specs.Sizes.{fieldCount, slotCount}
+use Rattle.numbers.specs.Sizes.{slotCount}
 use Rattle.numbers.proofs.Overlay.{overlay-inside, length-overlay}
-use Rattle.section.specs.declared.quadratic_part.QuadraticPart.{QuadraticPart}
-use Rattle.section.specs.declared.quadratic_part.QuadraticPart.the-variants as quadratic
-use Rattle.section.specs.declared.convex_monotone_part.ConvexMonotonePart.{ConvexMonotonePart}
-use Rattle.section.specs.declared.convex_monotone_part.ConvexMonotonePart.the-variants as convex
-use Rattle.section.specs.declared.section.Section.{Section}
-use Rattle.section.specs.declared.section.Section.the-variants as kind
-use Rattle.numbers.specs.Sizes.{fieldCount, slotCount}
-use Rattle.record.specs.Slots.{slotsOf, quadraticSlots, convexSlots, layout}
 use Rattle.record.specs.Tag.{tagOf}
 use Rattle.record.specs.Reading.{readSection, recordAt}
 use Rattle.record.specs.declared.reading.Found.the-variants as found
-use Rattle.record.proofs.RoundTrip.{round-trip}
+use Rattle.record.proofs.RoundTrip.{record-length, record-back}
 use Rattle.table.specs.declared.ends.Frame.{Frame}
 use Rattle.assembly.specs.Making.{tagsAfter, slotsAfter}
-use Rattle.assembly.specs.Sections.{sectionAt, tagAt, slotAt}
+use Rattle.assembly.specs.Sections.{sectionAt, tagAt, recordFor, slotAt}
 use Rattle.assembly.proofs.Rows.{slot-here}
-
--- a weight, a quadratic part and another part fill its fields
-parts-length : (w : Float) (p : QuadraticPart) (c : ConvexMonotonePart) → length (layout w (quadraticSlots p) (convexSlots c)) ≡ fieldCount
-unfolding quadraticSlots convexSlots
-parts-length w (quadratic.Quadratic p) (convex.ConvexMonotone2 c) = refl
-parts-length w (quadratic.Quadratic p) (convex.ConvexMonotone3 c) = refl
-parts-length w (quadratic.Quadratic p) (convex.ConvexMonotone4 c) = refl
-parts-length w (quadratic.Quadratic p) (convex.ConvexMonotone4Min c) = refl
-parts-length w (quadratic.QuadraticMin p) (convex.ConvexMonotone2 c) = refl
-parts-length w (quadratic.QuadraticMin p) (convex.ConvexMonotone3 c) = refl
-parts-length w (quadratic.QuadraticMin p) (convex.ConvexMonotone4 c) = refl
-parts-length w (quadratic.QuadraticMin p) (convex.ConvexMonotone4Min c) = refl
-
--- every section has so many fields
-pub slots-length : (s : Section) → length (slotsOf s) ≡ fieldCount
-unfolding slotsOf quadraticSlots convexSlots
-slots-length (kind.EverywhereConstant s) = refl
-slots-length (kind.ConstantGrad s) = refl
-slots-length (kind.ConvexMonotone2 s) = refl
-slots-length (kind.ConvexMonotone3 s) = refl
-slots-length (kind.ConvexMonotone4 s) = refl
-slots-length (kind.ConvexMonotone4Min s) = refl
-slots-length (kind.Quadratic s) = refl
-slots-length (kind.QuadraticMin s) = refl
-slots-length (kind.Combination s) = parts-length (s .quadraticity) (s .«quadratic_helper») (s .«conv_mono_helper»)
 
 -- the part of a list that holds another list, place by place, is that list
 part-is : (big small : List Float) (p n : ℕ) → length small ≡ n → p + n ≤ length big →
@@ -69,16 +36,21 @@ module _ (x y : List Float) (frame : Frame) where
       ap (λ (j : ℕ). getD (tagsAfter 0 x y frame tags) j 0) (sym (zero-add i))
       ∙ overlay-inside 0 (length x - 1) (tagAt x y frame) tags i 0 l (omega arith)
 
-  -- the slots that are written for it
-  pub slots-read-back : (i : ℕ) (slots : List Float) → i < length x - 1 → slotCount * (length x - 1) ≤ length slots →
-      take slotCount (drop (slotCount * i) (slotsAfter 0 x y frame slots)) ≡ slotsOf (sectionAt x y frame i)
-  slots-read-back i slots l h =
-      let same : length (slotsAfter 0 x y frame slots) ≡ length slots = length-overlay 0 (slotCount * (length x - 1)) (slotAt x y frame) slots in
-      part-is (slotsAfter 0 x y frame slots) (slotsOf (sectionAt x y frame i)) (slotCount * i) slotCount (slots-length (sectionAt x y frame i)) (omega arith)
-      (λ (k : ℕ) (m : k < slotCount).
+  -- each slot that is written for it
+  pub slot-read-back : (i k : ℕ) (slots : List Float) → i < length x - 1 → k < slotCount → slotCount * (length x - 1) ≤ length slots →
+      getD (slotsAfter 0 x y frame slots) (slotCount * i + k) nan ≡ getD (recordFor x y frame i) k nan
+  slot-read-back i k slots l m h =
       ap (λ (j : ℕ). getD (slotsAfter 0 x y frame slots) j nan) (sym (zero-add (slotCount * i + k)))
       ∙ overlay-inside 0 (slotCount * (length x - 1)) (slotAt x y frame) slots (slotCount * i + k) nan (omega arith) (omega arith)
-      ∙ slot-here x y frame i k m)
+      ∙ slot-here x y frame i k m
+
+  -- all of them
+  pub slots-read-back : (i : ℕ) (slots : List Float) → i < length x - 1 → slotCount * (length x - 1) ≤ length slots →
+      take slotCount (drop (slotCount * i) (slotsAfter 0 x y frame slots)) ≡ recordFor x y frame i
+  slots-read-back i slots l h =
+      let same : length (slotsAfter 0 x y frame slots) ≡ length slots = length-overlay 0 (slotCount * (length x - 1)) (slotAt x y frame) slots in
+      part-is (slotsAfter 0 x y frame slots) (recordFor x y frame i) (slotCount * i) slotCount (record-length (sectionAt x y frame i) _ _ _) (omega arith)
+      (λ (k : ℕ) (m : k < slotCount). slot-read-back i k slots l m h)
 
   -- each record of a built curve is read back as the section it was written from
   pub record-read-back : (i : ℕ) (tags : List ℕ) (slots : List Float) → i < length x - 1 → length x - 1 ≤ length tags → slotCount * (length x - 1) ≤ length slots →
@@ -86,4 +58,4 @@ module _ (x y : List Float) (frame : Frame) where
   record-read-back i tags slots l h g =
       ap (λ (t : ℕ). readSection t (take slotCount (drop (slotCount * i) (slotsAfter 0 x y frame slots)))) (tag-read-back i tags l h)
       ∙ ap (λ (s : List Float). readSection (tagOf (sectionAt x y frame i)) s) (slots-read-back i slots l g)
-      ∙ round-trip (sectionAt x y frame i)
+      ∙ record-back (sectionAt x y frame i) _ _ _

@@ -10,7 +10,7 @@ use Rattle.section.specs.Section as section
 use Rattle.section.specs.declared.section.Section.{Section}
 use Rattle.section.specs.declared.section.Section.the-variants as kind
 use Rattle.numbers.specs.Sizes.{slotCount}
-use Rattle.record.specs.Slots.{slotsOf}
+use Rattle.record.specs.Slots.{recordOf}
 use Rattle.record.specs.Tag.{tagOf}
 use Rattle.table.specs.Table.{at, nodeAt, totalAt}
 use Rattle.table.specs.declared.ends.Frame.{Frame}
@@ -43,9 +43,13 @@ module _ (x y : List Float) (frame : Frame) where
   abbrev pub tagAt : ℕ → ℕ
   tagAt i = tagOf (sectionAt i)
 
+  -- 02, K9: the record of period i + 1
+  abbrev pub recordFor : ℕ → List Float
+  recordFor i = recordOf (sectionAt i) (at x i) (at x (i + 1)) (totalAt x y frame (i + 1))
+
   -- what stands in slot k of all records in a row
   abbrev pub slotAt : ℕ → Float
-  slotAt k = getD (slotsOf (sectionAt (k / slotCount))) (k % slotCount) nan
+  slotAt k = getD (recordFor (k / slotCount)) (k % slotCount) nan
 
   -- the tail: its value, its total and where it starts
   unfoldable pub tailOf : Tail

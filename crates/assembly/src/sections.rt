@@ -2,8 +2,10 @@
 use choice::period::Period;
 use numbers::FIELDS;
 use numbers::SLOTS;
-use record::number::value_in;
-use record::reading::Found;
+use record::knots::LEFT_PRICE;
+use record::knots::RIGHT_PRICE;
+use record::knots::TOTAL_AFTER;
+use record::knots::knot_prices;
 use section::everywhere_constant::EverywhereConstant;
 use section::section::Section;
 use table::ends::Frame;
@@ -15,9 +17,10 @@ ghost use lib.Ieee.{Float, nan};
 ghost use lib.ListN.{length, getD, set};
 ghost use Rattle.numbers.specs.Overlay.{overlay};
 ghost use Rattle.numbers.specs.Sizes.{fieldCount, slotCount};
-ghost use Rattle.record.specs.Slots.{slotsOf};
+ghost use Rattle.record.specs.Slots.{recordOf};
+ghost use Rattle.record.specs.Knots.{rightPrice, totalAfter};
 ghost use Rattle.record.specs.Tag.{tagOf};
-ghost use Rattle.record.specs.Reading.{recordAt};
+ghost use Rattle.section.specs.Section.{value};
 ghost use Rattle.table.specs.Buffers.{buffers, outcome};
 ghost use Rattle.table.specs.Sound.{Room};
 ghost use Rattle.table.specs.Table.{at, nodeAt, totalAt};
@@ -40,14 +43,27 @@ fn copy(from: [f64; FIELDS], to: &mut [f64], at: usize)
     }
 }
 
-// Writes a section's record at its place.
-fn put(section: Section, i: usize, tags: &mut [u16], slots: &mut [f64])
+// Writes the record of a period at its place: the section, its price at the two knots, and the total after it.
+fn put(
+    section: Section,
+    left: f64,
+    right: f64,
+    total: f64,
+    i: usize,
+    tags: &mut [u16],
+    slots: &mut [f64],
+)
     requires { ⌜ (i < length (now tags)) × (slotCount * i + slotCount ≤ length (now slots)) × (i < 4096) ⌝ }
     ensures tags { λ _. ⌜ now (tags .exit) ≡ set (now (tags .entry)) i (tagOf section) ⌝ }
-    ensures slots { λ _. ⌜ now (slots .exit) ≡ overlay (slotCount * i) slotCount (λ k. getD (slotsOf section) k nan) (now (slots .entry)) ⌝ }
+    ensures slots { λ _. ⌜ now (slots .exit) ≡ overlay (slotCount * i) slotCount (λ k. getD (recordOf section left right total) k nan) (now (slots .entry)) ⌝ }
 {
     tags[i] = record::tag::tag_of(section);
-    copy(record::slots::slots_of(section), slots, SLOTS * i);
+    let from = SLOTS * i;
+    copy(record::slots::slots_of(section), slots, from);
+    let prices = knot_prices(section, left, right);
+    slots[from + LEFT_PRICE] = prices.left;
+    slots[from + RIGHT_PRICE] = prices.right;
+    slots[from + TOTAL_AFTER] = total;
 }
 
 // Whether the period after knot i is the last one, and held.
@@ -99,18 +115,22 @@ fn put_sections(
     let mut total = frame.start;
     let mut before = total;
     for i in 0..count {
-        put(section_at(xs, ys, frame, nodes, i, total), i, tags, slots);
+        let section = section_at(xs, ys, frame, nodes, i, total);
+        let left = xs[i];
+        let right = xs[i + 1];
         before = total;
-        total = total + ys[i + 1] * (xs[i + 1] - xs[i]);
+        total = total + ys[i + 1] * (right - left);
+        put(section, left, right, total, i, tags, slots);
     }
     before
 }
 
-// The tail. Where the last period is shaped, its price there is read from its record.
-fn tail_of(xs: &[f64], ys: &[f64], frame: Frame, tags: &[u16], slots: &[f64], total: f64) -> Tail
+// The tail. Where the last period is shaped, its price and its total there are those of its record.
+fn tail_of(xs: &[f64], ys: &[f64], frame: Frame, slots: &[f64], total: f64) -> Tail
     requires { ⌜ (2 ≤ length (now xs)) × (length (now xs) ≡ length (now ys)) × (length (now xs) ≤ 4096) ⌝ }
-    requires { ⌜ (length (now xs) - 1 ≤ length (now tags)) × (slotCount * (length (now xs) - 1) ≤ length (now slots)) ⌝ }
-    requires { ⌜ recordAt (now tags) (now slots) (length (now xs) - 2) ≡ Found.Section (sectionAt (now xs) (now ys) frame (length (now xs) - 2)) ⌝ }
+    requires { ⌜ slotCount * (length (now xs) - 1) ≤ length (now slots) ⌝ }
+    requires { ⌜ at (now slots) (slotCount * (length (now xs) - 2) + rightPrice) ≡ value (sectionAt (now xs) (now ys) frame (length (now xs) - 2)) (at (now xs) (length (now xs) - 2 + 1)) ⌝ }
+    requires { ⌜ at (now slots) (slotCount * (length (now xs) - 2) + totalAfter) ≡ totalAt (now xs) (now ys) frame (length (now xs) - 2 + 1) ⌝ }
     requires { ⌜ total ≡ totalAt (now xs) (now ys) frame (length (now xs) - 2) ⌝ }
     ensures { λ r. ⌜ r ≡ tailOf (now (xs .entry)) (now (ys .entry)) frame ⌝ }
 {
@@ -124,10 +144,9 @@ fn tail_of(xs: &[f64], ys: &[f64], frame: Frame, tags: &[u16], slots: &[f64], to
     }
     let end = xs[i + 1];
     let from = SLOTS * i;
-    let last = value_in(tags[i], &slots[from..from + SLOTS], end);
     Tail {
-        value: last.or_zero(),
-        total: total + ys[i + 1] * (end - xs[i]),
+        value: slots[from + RIGHT_PRICE],
+        total: slots[from + TOTAL_AFTER],
         from: end,
     }
 }
@@ -146,5 +165,5 @@ pub(crate) fn put_all(
 {
     crate::nodes::fill(xs, ys, frame, nodes);
     let total = put_sections(xs, ys, frame, nodes, tags, slots);
-    tail_of(xs, ys, frame, tags, slots, total)
+    tail_of(xs, ys, frame, slots, total)
 }

@@ -11,7 +11,7 @@ use Rattle.convex.specs.ConvexMonotone4 as cm4
 use Rattle.quadratic.specs.QuadraticMin as quadmin
 use Rattle.section.specs.Section as section
 use Rattle.record.specs.Reading.{quadraticFrom, otherFrom, joined, readSection}
-use Rattle.record.specs.Slots.{quadraticSlots, convexSlots, slotsOf}
+use Rattle.record.specs.Slots.{quadraticSlots, convexSlots, slotsOf, recordOf}
 use Rattle.record.specs.Tag.{quadraticTag, convexTag, tagOf}
 use Rattle.table.specs.Check.{allFinite, rising}
 use Rattle.table.specs.Table.{middleAt, firstNode, lastNode, nodeAt, totalAt}
@@ -27,5 +27,5 @@ use Rattle.query.specs.Query.{walk, covering}
 use Rattle.figures.specs.Figures.{same, table, agree}
 
 pub figures : agree table ≡ true
-unfolding ofBits toBits add sub mul div neg le lt allBelow overlay finite abs root cm2.value cm4.value quadmin.splits quadmin.inPeriod quadmin.split quadmin.new quadmin.careful quadmin.value section.value quadraticFrom otherFrom joined readSection quadraticSlots convexSlots slotsOf quadraticTag convexTag tagOf allFinite rising middleAt firstNode lastNode nodeAt totalAt nodes.second nodes.secondLast firstRegion mixed shaped sectionOf atMost atLeast fourth third convexPart part.second made minKind flat minFits inFirst inSecond inThird sectionAt tailOf curveOf walk covering same ne
+unfolding ofBits toBits add sub mul div neg le lt allBelow overlay finite abs root cm2.value cm4.value quadmin.splits quadmin.inPeriod quadmin.split quadmin.new quadmin.careful quadmin.value section.value quadraticFrom otherFrom joined readSection quadraticSlots convexSlots slotsOf recordOf quadraticTag convexTag tagOf allFinite rising middleAt firstNode lastNode nodeAt totalAt nodes.second nodes.secondLast firstRegion mixed shaped sectionOf atMost atLeast fourth third convexPart part.second made minKind flat minFits inFirst inSecond inThird sectionAt tailOf curveOf walk covering same ne
 figures = refl

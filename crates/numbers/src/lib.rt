@@ -7,8 +7,8 @@ ghost use Rattle.numbers.specs.Words.{finite, abs};
 // The numbers of a section itself, in its record: a weight, and the fields of its two parts.
 pub const FIELDS: usize = 24;
 
-// The slots of one record.
-pub const SLOTS: usize = FIELDS;
+// The slots of one record: the section's numbers, its prices at the two knots of its period, and the running total after the period.
+pub const SLOTS: usize = FIELDS + 3;
 
 // In the safe mode no shape is squeezed to this part of its period or less.
 pub const NARROW: f64 = 1.0e-12;

@@ -2,6 +2,7 @@
 use mathlib.Core.Path.{_∙_, sym}
 use denote.Ref.{now}
 use Rattle.numbers.specs.OneOutcome.{OneAnswer, OneOutcome}
+use Rattle.record.proofs.knots.knot_prices.Reads as knot-prices
 use Rattle.record.proofs.legality.legal_in.Reads as legal-in
 use Rattle.record.proofs.number.Answer.or_zero.Reads as answer-or-zero
 use Rattle.record.proofs.number.value_in.Reads as value-in
@@ -11,6 +12,9 @@ use Rattle.record.proofs.reader.record_slots.Reads as record-slots
 use Rattle.record.proofs.reading.read_section.Reads as read-section
 use Rattle.record.proofs.slots.slots_of.Reads as slots-of
 use Rattle.record.proofs.tag.tag_of.Reads as tag-of
+
+pub knot-prices-unique : OneAnswer knot-prices.Post
+knot-prices-unique κ a r₁ r₂ s t p q = p ∙ sym q
 
 pub legal-in-unique : OneAnswer legal-in.Post
 legal-in-unique κ a r₁ r₂ s t p q = p ∙ sym q

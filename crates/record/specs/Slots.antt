@@ -1,9 +1,10 @@
--- 01, Buffers and section records: the slots
+-- 01, Buffers and section records: the slots. 02, K9: what the record of a period adds to them.
 use Prim.Native.Nat.{ℕ}
 use mathlib.Core.List.{List, [], _∷_, _++_}
 use lib.Ieee.{Float}
 use lib.ListN.{replicate}
 use Rattle.numbers.specs.Words.{zero, one}
+use Rattle.section.specs.Section.{value}
 use Rattle.section.specs.declared.everywhere_constant.EverywhereConstant.{EverywhereConstant}
 use Rattle.section.specs.declared.constant_grad.ConstantGrad.{ConstantGrad}
 use Rattle.convex.specs.declared.convex_monotone2.ConvexMonotone2.{ConvexMonotone2}
@@ -55,3 +56,8 @@ slotsOf (section.ConvexMonotone4Min s) = layout zero (none 12) (convexSlots (con
 slotsOf (section.Quadratic s) = layout one (quadraticSlots (quadratic.Quadratic s)) (none 11)
 slotsOf (section.QuadraticMin s) = layout one (quadraticSlots (quadratic.QuadraticMin s)) (none 11)
 slotsOf (section.Combination s) = layout (s .quadraticity) (quadraticSlots (s .«quadratic_helper»)) (convexSlots (s .«conv_mono_helper»))
+
+-- the record of a period: its section's fields, the section's price at the left knot and at the right one, and the running total after the period
+unfoldable pub recordOf : Section → Float → Float → Float → List Float
+unfolding slotsOf
+recordOf s left right total = slotsOf s ++ (value s left ∷ value s right ∷ total ∷ [])

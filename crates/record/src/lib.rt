@@ -1,5 +1,6 @@
-// Records: a section's tag and slots for lent buffers, and the way back from them: the section, the one number that a query asks of it, or only whether
-// the tag is legal.
+// Records: a section's tag and slots for lent buffers, what the record of a period adds to them, and the way back: the section, the one number that a
+// query asks of it, or only whether the tag is legal.
+pub mod knots;
 pub mod legality;
 pub mod number;
 pub mod reader;

@@ -13,8 +13,6 @@ use lib.Seq.{getD-take, getD-drop, length-take-le}
 use Rattle.numbers.specs.Sizes.{slotCount}
 use Rattle.numbers.specs.Words.{zero}
 use Rattle.numbers.proofs.Ways.{lt-or-le}
-use Rattle.section.specs.declared.section.Section.{Section}
-use Rattle.record.specs.Slots.{slotsOf}
 use Rattle.record.specs.Tag.{tagOf}
 use Rattle.table.specs.Table.{at, outer, orGiven, middleAt, second, secondLast, firstNode, lastNode, nodeAt, totalAt}
 use Rattle.table.specs.declared.method.ConvexMonotone.{ConvexMonotone}
@@ -22,7 +20,7 @@ use Rattle.table.specs.declared.ends.End.{End}
 use Rattle.table.specs.declared.ends.End.the-variants as end
 use Rattle.table.specs.declared.ends.Frame.{Frame}
 use Rattle.choice.specs.Choice.{sectionOf}
-use Rattle.assembly.specs.Sections.{periodAt, sectionAt, tagAt, slotAt, tailOf}
+use Rattle.assembly.specs.Sections.{periodAt, sectionAt, tagAt, recordFor, slotAt, tailOf}
 use Rattle.assembly.proofs.Places.{node-first, node-last, node-middle}
 use Rattle.sheets.specs.Sheet.{sheetFrame}
 use Rattle.sheets.specs.Pieces.{Piece, part, whole}
@@ -193,12 +191,23 @@ module _ (x y : List Float) (method : ConvexMonotone) (n : 3 ≤ length x) (same
   pub tags-same : (k : ℕ) → k < m → tagAt (part p x) (part p y) F k ≡ tagAt x y G (a + k)
   tags-same k h = ap tagOf (sections-same k (a + k) h refl)
 
+  -- a whole record: the section, its price at both knots, and the total after it
+  records-same : (k j : ℕ) → k < m → j ≡ a + k → recordFor (part p x) (part p y) F k ≡ recordFor x y G j
+  records-same k j h e =
+      let f : a + (k + 1) ≡ j + 1 = omega arith in
+      rw (
+        sections-same k j h e,
+        x-at k j (omega arith) e,
+        x-at (k + 1) (j + 1) (omega arith) (omega arith),
+        totals-same (k + 1) (omega arith) ∙ ap (totalAt x y G) f,
+      )
+
   pub slots-same : (k : ℕ) → k < slotCount * m → slotAt (part p x) (part p y) F k ≡ slotAt x y G (slotCount * a + k)
   slots-same k h =
       let d : (slotCount * a + k) / slotCount ≡ a + k / slotCount = omega arith in
       let r : (slotCount * a + k) % slotCount ≡ k % slotCount = omega arith in
-      ap (λ (s : Section). getD (slotsOf s) (k % slotCount) nan) (sections-same (k / slotCount) ((slotCount * a + k) / slotCount) (omega arith) d)
-      ∙ ap (λ (j : ℕ). getD (slotsOf (sectionAt x y G ((slotCount * a + k) / slotCount))) j nan) (sym r)
+      ap (λ (w : List Float). getD w (k % slotCount) nan) (records-same (k / slotCount) ((slotCount * a + k) / slotCount) (omega arith) d)
+      ∙ ap (λ (j : ℕ). getD (recordFor x y G ((slotCount * a + k) / slotCount)) j nan) (sym r)
 
   -- the total after the sheet, and, of one that ends the table, the record
   pub total-after : tailOf (part p x) (part p y) F .total ≡ totalAt x y G (p .to)

@@ -3,13 +3,13 @@ use native.Mathlib.Omega.{arith}
 use mathlib.Core.Path.{_≡_}
 use borrow.Author.Needs.{needs}
 use mathlib.Core.List.{List}
-use Prim.Native.Nat.{ℕ, _-_}
+use Prim.Native.Nat.{ℕ, _-_, _<_}
 use lib.Ieee.{Float}
 use lib.ListN.{length}
 use Rattle.table.specs.Buffers.{outcome}
 use Rattle.assembly.specs.declared.sections.Tail.{Tail}
 use Rattle.assembly.proofs.Places.{nodes-hold}
-use Rattle.assembly.proofs.ReadBack.{record-read-back}
+use Rattle.assembly.proofs.Knots.{right-left, total-left}
 use Rattle.assembly.proofs.sections.put_all.Statement.{statement}
 use Rattle.assembly.proofs.sections.put_all.Tie as tie
 
@@ -24,15 +24,19 @@ put-sections-requires c κs =
 
 tail-of-requires : tie.Need-tail-of-requires
 tail-of-requires c κs =
-    let s = c .before .before .before .before .before .before .before .before .before .before .before .before .before .before .before .before .before .before .before in
+    let s = c .before .before .before .before .before .before .before .before .before .before .before .before .before .before .before .before .before .before in
     let a = s .args in
-    let p = c .before .before .before .before .before .before .put-sections .ensures in
-    (search needs, (search needs, (rw (p .1 .0, p .1 .1) (record-read-back (a .xs .now) (a .ys .now) (a .frame) (length (a .xs .now) - 2) (a .tags .now) (a .slots .now) (omega arith) (omega arith) (omega arith)), p .0)))
+    let p = c .before .before .before .before .before .put-sections .ensures in
+    let last : length (a .xs .now) - 2 < length (a .xs .now) - 1 = omega arith in
+    let room = s .pre .2 .in-slots in
+    let price = right-left (a .xs .now) (a .ys .now) (a .frame) (length (a .xs .now) - 2) (a .slots .now) last room in
+    let total = total-left (a .xs .now) (a .ys .now) (a .frame) (length (a .xs .now) - 2) (a .slots .now) last room in
+    (search needs, (search needs, (rw (p .1 .1) price, (rw (p .1 .1) total, p .0))))
 
 returns : tie.Need-returns
 returns c =
-    let (_, (tags, slots)) = c .before .before .before .before .before .before .before .put-sections .ensures in
-    all (c .tail-of .ensures) (c .before .before .before .before .before .before .before .before .before .before .before .before .before .fill .ensures) tags slots
+    let (_, (tags, slots)) = c .before .before .before .before .before .before .put-sections .ensures in
+    all (c .tail-of .ensures) (c .before .before .before .before .before .before .before .before .before .before .before .before .fill .ensures) tags slots
 
 pub put-all-spec : {M : Type 1} → statement M
 put-all-spec =

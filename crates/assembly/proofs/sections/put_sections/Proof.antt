@@ -10,7 +10,7 @@ use Rattle.numbers.specs.Overlay.{overlay}
 use Rattle.numbers.proofs.Overlay.{overlay-none}
 use Rattle.table.specs.Table.{at, nodeAt, totalAt}
 use Rattle.assembly.specs.Sections.{tagAt, slotAt}
-use Rattle.assembly.proofs.Rows.{tag-more, slots-more, total-more}
+use Rattle.assembly.proofs.Rows.{tag-more, record-for, slots-more, total-more}
 use Rattle.assembly.proofs.sections.put_sections.Statement.{statement}
 use Rattle.assembly.proofs.sections.put_sections.Tie as tie
 
@@ -23,9 +23,6 @@ Inv-loop xs ys frame nodes tags₀ slots₀ count total₀ before₀ i₀ tags s
 
 abbrev μ-loop : tie.MeasureT-loop
 μ-loop xs ys frame nodes tags₀ slots₀ count total₀ before₀ i₀ tags slots total before i = count - i
-
-sub-count : tie.Need-sub-count Inv-loop μ-loop
-sub-count c = search needs
 
 loop-holds : tie.Need-loop-holds Inv-loop μ-loop
 unfolding totalAt
@@ -53,40 +50,10 @@ section-at-requires c κs = let l = c .before .loop in (search needs, (l .inv .1
 
 put-requires : tie.Need-put-requires Inv-loop μ-loop
 put-requires c κs =
-    let l = c .before .before .before .before .loop in
+    let l = c .before .before .before .before .before .before .before .loop in
     let a : l .i < length (l .tags) = omega arith in
     let b : slotCount * l .i + slotCount ≤ length (l .slots) = omega arith in
     (a, b, omega arith)
-
-add-total : tie.Need-add-total Inv-loop μ-loop
-add-total c = search needs
-
-mul-total : tie.Need-mul-total Inv-loop μ-loop
-mul-total c = search needs
-
-shared-slice-read-total : tie.Need-shared-slice-read-total Inv-loop μ-loop
-shared-slice-read-total c = search needs
-
-add-total-2 : tie.Need-add-total-2 Inv-loop μ-loop
-add-total-2 c = search needs
-
-mul-total-2 : tie.Need-mul-total-2 Inv-loop μ-loop
-mul-total-2 c = search needs
-
-shared-slice-read-total-2 : tie.Need-shared-slice-read-total-2 Inv-loop μ-loop
-shared-slice-read-total-2 c = search needs
-
-mul-total-3 : tie.Need-mul-total-3 Inv-loop μ-loop
-mul-total-3 c = search needs
-
-shared-slice-read-total-3 : tie.Need-shared-slice-read-total-3 Inv-loop μ-loop
-shared-slice-read-total-3 c = search needs
-
-add-i : tie.Need-add-i Inv-loop μ-loop
-add-i c = search needs
-
-loop-less : tie.Need-loop-less Inv-loop μ-loop
-loop-less c = search needs
 
 loop-again : tie.Need-loop-again Inv-loop μ-loop
 loop-again c =
@@ -95,6 +62,8 @@ loop-again c =
     let x = a .xs .now in
     let y = a .ys .now in
     let s = c .before .before .before .before .before .before .before .before .before .before .section-at .ensures in
+    let p = c .before .before .before .before .put .ensures in
+    let more = total-more x y (a .frame) (l .i) _ (l .inv .11) in
     let e : l .i + 1 - 1 ≡ l .i = omega arith in (
       omega arith,
       search needs,
@@ -107,17 +76,11 @@ loop-again c =
       search needs,
       search needs,
       l .inv .10,
-      total-more x y (a .frame) (l .i) _ (l .inv .11),
+      more,
       l .inv .11 ∙ ap (λ (k : ℕ). totalAt x y (a .frame) k) (sym e),
-      c .before .before .before .before .before .before .before .put .ensures .0 ∙ tag-more x y (a .frame) (l .i) _ _ _ (l .inv .13) s,
-      slots-more x y (a .frame) (l .i) _ _ _ _ (l .inv .14) (c .before .before .before .before .before .before .before .put .ensures .1) s,
+      p .0 ∙ tag-more x y (a .frame) (l .i) _ _ _ (l .inv .13) s,
+      slots-more x y (a .frame) (l .i) _ _ _ _ (l .inv .14) (p .1) (record-for x y (a .frame) (l .i) _ _ s more),
     )
-
-same-length : tie.Need-same-length Inv-loop μ-loop
-same-length c = search needs
-
-same-length-2 : tie.Need-same-length-2 Inv-loop μ-loop
-same-length-2 c = search needs
 
 returns : tie.Need-returns Inv-loop μ-loop
 returns c =
@@ -131,23 +94,13 @@ pub put-sections-spec : {M : Type 1} → statement M
 put-sections-spec =
     tie.close
     (tie.spec
-    Inv-loop
-    μ-loop
-    sub-count
-    loop-holds
-    section-at-requires
+    Inv-loop μ-loop
+    (λ c. search needs)
+    loop-holds section-at-requires
+    (λ c. search needs) (λ c. search needs) (λ c. search needs) (λ c. search needs)
+    (λ c. search needs) (λ c. search needs) (λ c. search needs) (λ c. search needs)
     put-requires
-    add-total
-    mul-total
-    shared-slice-read-total
-    add-total-2
-    mul-total-2
-    shared-slice-read-total-2
-    mul-total-3
-    shared-slice-read-total-3
-    add-i
-    loop-less
+    (λ c. search needs) (λ c. search needs)
     loop-again
-    same-length
-    same-length-2
+    (λ c. search needs) (λ c. search needs)
     returns)
