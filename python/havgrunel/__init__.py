@@ -12,11 +12,11 @@ Every price comes from a proved function of the library. A refusal is the except
 rest.
 """
 
-from ._library import MOST_POINTS, SLOTS, LibraryMissing
+from ._library import FIELDS, MOST_POINTS, SLOTS, LibraryMissing
 from .curve import Curve, Method, Tail, sqrt
 from .refusals import Refused
 from .section import Section
 
-__version__ = "0.2.0"
+__version__ = "0.3.0"
 
-__all__ = ["MOST_POINTS", "SLOTS", "Curve", "LibraryMissing", "Method", "Refused", "Section", "Tail", "sqrt"]
+__all__ = ["FIELDS", "MOST_POINTS", "SLOTS", "Curve", "LibraryMissing", "Method", "Refused", "Section", "Tail", "sqrt"]

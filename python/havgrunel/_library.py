@@ -14,7 +14,9 @@ import threading
 from ctypes import POINTER, c_bool, c_double, c_size_t, c_uint8, c_uint16
 from typing import Any, Dict, List, Optional, Tuple
 
-SLOTS = 24
+# A record of a curve has so many slots. The first are the fields of its section, and all that a section needs to answer by itself.
+SLOTS = 27
+FIELDS = 24
 MOST_POINTS = 4096
 VARIABLE = "HAVGRUNEL_LIBRARY"
 FILE = "libhavgrunel.so"
@@ -47,6 +49,7 @@ DECLARED: Dict[str, Tuple[Any, List[Any]]] = {
     "havgrunel_primitive": (c_uint8, _ASKED + [c_double] + _NUMBERS),
     "havgrunel_values": (c_uint8, _ASKED + _NUMBERS + _NUMBERS),
     "havgrunel_primitives": (c_uint8, _ASKED + _NUMBERS + _NUMBERS),
+    "havgrunel_record": (c_uint8, [c_size_t] + _NUMBERS + [c_size_t] + _NUMBERS),
     "havgrunel_section": (c_uint8, [c_uint16] + _NUMBERS + [c_double] + _NUMBERS),
     "havgrunel_quadratic_min_safe": (c_uint8, [c_double] * 6 + _TAGS + _NUMBERS),
 }
@@ -137,4 +140,14 @@ def _opened(path: str) -> ctypes.CDLL:
             raise LibraryMissing(f"havgrunel: {path} is not the library of this package: it has no function {name}.") from None
         function.restype = answers
         function.argtypes = takes
+    slots = _slots(library)
+    if slots != SLOTS:
+        raise LibraryMissing(f"havgrunel: {path} is not the library of this package: its records have {slots or 'more'} slots, and this package reads {SLOTS}.")
     return library
+
+
+def _slots(library: ctypes.CDLL) -> int:
+    """How many slots a record of the library has: the fewest that it copies one from and into; 0 where they are more than the package's. A build does not
+    tell it: one into more room than it needs is no fault, and would be read here with a wrong stride."""
+    lent, into = (c_double * SLOTS)(), (c_double * SLOTS)()
+    return next((size for size in range(1, SLOTS + 1) if library.havgrunel_record(2, lent, size, 0, into, size) == 0), 0)

@@ -353,9 +353,11 @@ class Curve:
 
 
 def _again(cls: Type[Curve], *parts: Any) -> Curve:
-    """A curve from its parts, for pickle."""
+    """A curve from its parts, for pickle. One that was pickled by a version with other records cannot be asked by this one."""
     curve = cls.__new__(cls)
     curve._set(*parts)
+    if len(curve._slots) != SLOTS * len(curve._tags):
+        raise ValueError(f"the curve was pickled with {len(curve._slots) // len(curve._tags)} slots to a record, and there are {SLOTS} now: build it again")
     return curve
 
 

@@ -1,11 +1,12 @@
 """One section of a curve by itself."""
 
 import ctypes
+from array import array
 from dataclasses import dataclass
 from typing import Tuple
 
 from . import _numbers
-from ._library import SLOTS, load
+from ._library import FIELDS, load
 from .refusals import Refused
 
 # A tag's bits, most significant first: 3 for the quadratic part, 1 for its split, 4 for the other part, 1 for its split, 7 to spare.
@@ -13,18 +14,25 @@ _QUADRATIC = ("", "Quadratic", "QuadraticMin")
 _OTHER = ("", "EverywhereConstant", "ConstantGrad", "ConvexMonotone2", "ConvexMonotone3", "ConvexMonotone4", "ConvexMonotone4Min")
 _SPLITS = 1 << 12 | 1 << 7
 
-_Slots = ctypes.c_double * SLOTS
+_Fields = ctypes.c_double * FIELDS
 _Answer = ctypes.c_double * 3
 
 
-@dataclass(frozen=True)
+@dataclass(frozen=True, eq=False)
 class Section:
     """The curve over one period, from the knot x_prev to the knot x_next.
 
     It answers by its own formula wherever it is asked, at its right knot too, where the curve itself answers by the next section.
 
-    tag   -- 16 bits that say which kinds it is made of
-    slots -- its 24 numbers; those that its kinds don't use are 0
+    tag         -- 16 bits that say which kinds it is made of
+    slots       -- the 27 numbers of its record: the 24 of its formula, of which those that its kinds don't use are 0, and the three that follow
+    left_price  -- the price at its left knot, by its own formula: value(x_prev), bit for bit
+    right_price -- the price at its right knot, by its own formula: value(x_next), bit for bit. Where it is not the left price of the next section the
+                   curve jumps
+    total       -- the running total after its period: what was traded from the curve's first knot up to x_next. It is where the next section starts,
+                   whatever primitive(x_next) says of a period that lost its average
+
+    A price is infinite or no number where the formula gives that. Two sections are equal where they are the same, bit for bit.
     """
 
     tag: int
@@ -48,6 +56,21 @@ class Section:
         """Whether a part of it is split: it has a stretch of zero in its middle."""
         return bool(self.tag & _SPLITS)
 
+    @property
+    def left_price(self) -> float:
+        """The price at its left knot by this section's formula."""
+        return self.slots[FIELDS]
+
+    @property
+    def right_price(self) -> float:
+        """The price at its right knot by this section's formula."""
+        return self.slots[FIELDS + 1]
+
+    @property
+    def total(self) -> float:
+        """The running total after its period."""
+        return self.slots[FIELDS + 2]
+
     def value(self, x: float) -> float:
         """The price at x by this section's formula, wherever x is."""
         return self._answer(x)[0]
@@ -63,7 +86,18 @@ class Section:
 
     def _answer(self, x: float) -> Tuple[float, float, float]:
         answer = _Answer()
-        number = load().havgrunel_section(self.tag, _Slots(*self.slots), SLOTS, _numbers.one(x, "x"), answer, 3)
+        number = load().havgrunel_section(self.tag, _Fields(*self.slots[:FIELDS]), FIELDS, _numbers.one(x, "x"), answer, 3)
         if number:
             raise Refused(number)
         return answer[0], answer[1], answer[2]
+
+    # By their bits, since a price may be no number, which equals nothing.
+
+    def _bits(self) -> Tuple[int, bytes]:
+        return self.tag, array("d", [*self.slots, self.x_prev, self.x_next]).tobytes()
+
+    def __eq__(self, other: object) -> bool:
+        return self._bits() == other._bits() if isinstance(other, Section) else NotImplemented
+
+    def __hash__(self) -> int:
+        return hash(self._bits())

@@ -10,11 +10,13 @@ from array import array
 from concurrent.futures import ThreadPoolExecutor
 
 import havgrunel
-from havgrunel import MOST_POINTS, SLOTS, Curve, Method, Refused
+from havgrunel import FIELDS, MOST_POINTS, SLOTS, Curve, Method, Refused
 
 THREE = ([0.0, 1.0, 2.0], [0.0, 1.0, 3.0], Method(0.0, 1.0, False))
 # The second month has the nodes 4 and 1 and traded at 3.
 FALLING = ([0.0, 1.0, 2.0, 2.25], [0.0, 5.0, 3.0, 0.5])
+# The second hour traded at exactly 0.
+FREE = ([0.0, 1.0, 2.0, 3.0], [0.0, 2.0, 0.0, 2.0])
 GROWING = ([0.0, 1.0, 2.5, 3.0, 5.0], [0.0, 1.0, 3.0, 2.0, 2.5])
 
 
@@ -240,6 +242,111 @@ class Sections(unittest.TestCase):
             havgrunel.Section(0xFFFF, (0.0,) * SLOTS, 0.0, 1.0).value(0.5)
         self.assertEqual((caught.exception.number, caught.exception.name), (15, "RECORD_NOT_LEGAL"))
 
+    def test_a_section_needs_its_fields_alone(self):
+        """What a record adds to them is not read by the formulas, and a section of the fields alone answers."""
+        for section in Curve(*FALLING, Method.gas()).sections:
+            alone = havgrunel.Section(section.tag, section.slots[:FIELDS], section.x_prev, section.x_next)
+            self.assertEqual((alone.value(1.5), alone.primitive(1.5), alone.f_next), (section.value(1.5), section.primitive(1.5), section.f_next))
+
+    def test_equal_where_the_bits_are(self):
+        """One without a price at a knot too, which is no number there."""
+        first, second = (Curve(*FREE, Method.gas()).sections for _ in "12")
+        self.assertTrue(math.isnan(first[1].left_price))
+        self.assertEqual((first, len({*first, *second})), (second, 3))
+        self.assertEqual(pickle.loads(pickle.dumps(first)), first)
+        self.assertNotEqual(first[0], first[1])
+        self.assertNotEqual(first[0], first[0].slots)
+
+
+class KnotPrices(unittest.TestCase):
+    """What a record has besides its section's fields: the prices at its two knots and the total after it."""
+
+    def hold(self, curve):
+        """They are what the section answers, the totals are the table's own, and a tail after a shaped period has the last price and total."""
+        total = 0.0
+        for section, average in zip(curve.sections, curve.traded[1:]):
+            total += average * (section.x_next - section.x_prev)
+            told = section.left_price, section.right_price, section.total
+            self.assertEqual((len(section.slots), bits(section.slots[FIELDS:])), (SLOTS, bits(told)))
+            self.same(told, (section.value(section.x_prev), section.value(section.x_next), total))
+        if not curve.hold and len(curve.sections) > 1:
+            self.same(curve.tail[:2], (curve.sections[-1].right_price, total))
+
+    def same(self, *told):
+        """The same bits; a NaN is any other."""
+        one, other = (bits(math.nan if x != x else x for x in numbers) for numbers in told)
+        self.assertEqual(one, other)
+
+    def methods(self):
+        for quadraticity in 0.0, 0.3, 1.0:
+            yield Method(quadraticity, 0.7, False)
+            for split in "original", "careful", "safe":
+                yield Method(quadraticity, 0.7, True, split)
+
+    def test_shaped_and_held(self):
+        for seed in range(20):
+            for method in self.methods():
+                for hold in False, True:
+                    self.hold(Curve(*drawn(seed, 12), method, hold=hold))
+
+    def test_two_points(self):
+        for method in self.methods():
+            for hold in False, True:
+                curve = Curve([1, 3], [9, 2.5], method, hold=hold)
+                self.hold(curve)
+                self.assertEqual(curve.sections[0].slots[FIELDS:], (2.5, 2.5, 5.0))
+
+    def test_splits(self):
+        """The month whose split costs it its average ends below the node, and the next one starts on it and at the traded total all the same."""
+        for split, right in ("original", 0.9062), ("careful", 4.0), ("safe", 4.0):
+            curve = Curve(*FALLING, Method.gas(quadraticity=0, split=split))
+            self.hold(curve)
+            first, second = curve.sections[:2]
+            self.assertEqual((first.split, round(first.right_price, 4), second.left_price, first.total), (split == "original", right, 4.0, 5.0))
+            self.assertEqual(second.primitive(1.0), 5.0)
+
+    def test_the_next_section_starts_at_the_total(self):
+        """To the bit where the next one is of one kind. Where two are weighed the weights round."""
+        for seed in range(20):
+            for method in self.methods():
+                curve = Curve(*drawn(seed, 12), method)
+                for before, after in zip(curve.sections, curve.sections[1:]):
+                    start = curve.primitive(after.x_prev)
+                    self.assertLessEqual(abs(start - before.total), 0.0 if len(after.parts) == 1 else 2 * math.ulp(start))
+
+    def test_grown_and_in_sheets(self):
+        knots, averages = drawn(7, 12)
+        for method in self.methods():
+            grown = Curve.first_window(knots[:4], averages[:4], 3, len(knots), method)
+            self.hold(grown)
+            for size in range(5, len(knots) + 1):
+                grown = grown.grow(knots[:size], averages[:size], 3, len(knots))
+                self.hold(grown)
+            self.assertFalse(grown.hold)
+            self.hold(Curve.in_sheets(knots, averages, [3, 7], method))
+            self.hold(Curve(knots, averages, method, seam=(2, 40.0)))
+
+    def test_no_number(self):
+        """An hour at exactly 0 with positivity has no price at its knots but by the safe split; its total is the table's."""
+        for method in self.methods():
+            curve = Curve(*FREE, method)
+            self.hold(curve)
+            middle = curve.sections[1]
+            missing = method.positivity and method.split != "safe" and (method.split, method.quadraticity) != ("careful", 1.0)
+            self.assertEqual((math.isnan(middle.left_price), middle.total), (missing, 2.0))
+        curve = Curve(*FREE, Method.gas(split="safe"))
+        self.assertEqual([section.slots[FIELDS:] for section in curve.sections], [(2.5, 1.0, 2.0), (0.0, 0.0, 2.0), (1.0, 2.5, 4.0)])
+
+    def test_infinite(self):
+        curve = Curve([0, 10, 20], [0, 1e308, 1e308], Method(0.3, 0.7, False))
+        self.assertEqual([section.total for section in curve.sections], [math.inf, math.inf])
+
+    def test_they_cannot_be_written(self):
+        section = Curve(*THREE).sections[0]
+        for name in "left_price", "right_price", "total":
+            with self.assertRaises(AttributeError):
+                setattr(section, name, 1.0)
+
 
 class Splits(unittest.TestCase):
     """The careful split beside the original one."""
@@ -297,7 +404,7 @@ class Splits(unittest.TestCase):
             original, careful = (Curve(*table, Method.gas(quadraticity=quadraticity, split=split)).sections[1] for split in ("original", "careful"))
             self.assertTrue(original.tag & careful.tag & 1 << 7)
             # The slots behind the weight and the parabola's twelve are those of the other part.
-            self.assertEqual(bits(original.slots[13:]), bits(careful.slots[13:]))
+            self.assertEqual(bits(original.slots[13:FIELDS]), bits(careful.slots[13:FIELDS]))
             self.assertEqual((bool(original.tag & 1 << 12), bool(careful.tag & 1 << 12)), (quadraticity > 0, False))
 
     def test_growth_and_sheets_keep_the_mode(self):
@@ -367,6 +474,13 @@ class Objects(unittest.TestCase):
             self.assertEqual((other.tail, other.method, other.hold, other.extrapolate), (curve.tail, curve.method, True, True))
             self.assertEqual(other.sections, curve.sections)
             self.assertEqual(other.values([-1.0, 3.0, 1e6]), curve.values([-1.0, 3.0, 1e6]))
+
+    def test_a_curve_that_was_pickled_with_shorter_records(self):
+        curve = Curve(*THREE)
+        again, (*parts,) = curve.__reduce__()
+        parts[5] = parts[5][: 2 * FIELDS]
+        with self.assertRaisesRegex(ValueError, "the curve was pickled with 24 slots to a record, and there are 27 now: build it again"):
+            again(*parts)
 
     def test_a_method_that_was_pickled_before_there_was_a_split(self):
         method = Method(0.2, 0.9, False)

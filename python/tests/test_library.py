@@ -100,6 +100,15 @@ class Finding(unittest.TestCase):
             with self.assertRaisesRegex(havgrunel.LibraryMissing, "is not the library of this package: it has no function havgrunel_of_later"):
                 _library._opened(_library.load()._name)
 
+    def test_a_library_with_other_records(self):
+        """A record of 24 slots was all there was before the prices at its knots. Read as 27 it would be another section's."""
+        path = _library.load()._name
+        self.assertEqual(_library._slots(_library.load()), havgrunel.SLOTS)
+        for slots, have in (28, "27"), (51, "27"), (26, "more"), (24, "more"):
+            with unittest.mock.patch.object(_library, "SLOTS", slots):
+                with self.assertRaisesRegex(havgrunel.LibraryMissing, f"is not the library of this package: its records have {have} slots, and this package reads {slots}"):
+                    _library._opened(path)
+
     def test_the_variable_names_it(self):
         library = _library.load()._name
         code = "import havgrunel; print(havgrunel.sqrt(4), havgrunel._library.load()._name)"
