@@ -13,7 +13,7 @@ from .curve import Curve, Method
 from .faults import Stop, clipped
 from .refusals import Refused
 from .section import Section
-from .text import Order, Points, Rows, moment, needs_clock, show
+from .text import Asked, Knots, Order, Points, Rows, moment, needs_clock, show
 
 # How far what a period holds may lie from what it traded at before it counts as lost, as a part of the largest of its average and its two nodes. In 10,000
 # drawn strips with positivity off rounding alone came to 4.9e-12 up to monotonicity 0.99, and in 3,000 each to 3.1e-10 at 0.999, 1.3e-8 at 0.9999 and
@@ -22,6 +22,10 @@ from .text import Order, Points, Rows, moment, needs_clock, show
 ROUNDING = 1e-7
 # What is rounded off the totals at a period's ends, as a part of them. It counts where a short period stands late in a long strip.
 BLUR = 2.0**-50
+
+# How far apart the two prices at a knot may lie before the curve jumps there, as a part of the largest of the two periods' averages and their three nodes.
+# In the drawn strips that docs/SHAPES.md counts rounding alone came to 1.6e-15, and the smallest jump to 1.0e-4. tests/test_knots.py draws them again.
+JUMP = 1e-12
 
 # Above this monotonicity what rounding takes from an average grows to what counts as lost.
 HIGHEST = 0.99
@@ -51,16 +55,27 @@ class OverRow(NamedTuple):
     total: float
 
 
+class AtKnot(NamedTuple):
+    """A knot: the price of the section that ends there, the price of the one that starts there, the total up to it, and whether the curve jumps. The first
+    knot has no price from the left, and the last none from the right."""
+
+    at: float
+    left: Optional[float]
+    right: Optional[float]
+    total: float
+    jump: bool
+
+
 @dataclass
 class Answered:
     """One thing that was asked, and its answers."""
 
-    asked: Union[Points, Rows]
-    rows: Sequence[Union[AtPoint, OverRow]]
+    asked: Asked
+    rows: Sequence[Union[AtPoint, OverRow, AtKnot]]
 
     def numbers(self) -> List[Tuple[float, ...]]:
         """The answers of each row, without its point."""
-        return [tuple(row[2:] if isinstance(row, OverRow) else row[1:]) for row in self.rows]
+        return [tuple(x for x in (row[2:] if isinstance(row, OverRow) else row[1:]) if x is not None) for row in self.rows]
 
 
 @dataclass
@@ -161,13 +176,33 @@ def over_rows(curve: Curve, asked: Rows) -> List[OverRow]:
     return [OverRow(*row) for row in zip(starts, ends, curve.averages(asked.edges), curve.values(starts), curve.primitives(ends))]
 
 
+def at_knots(curve: Curve) -> List[AtKnot]:
+    """All knots, by what the records of the sections beside them have. Up to the first the total is 0: nothing lies before it."""
+    sections, sizes = curve.sections, scales(curve)
+    first, last = sections[0], sections[-1]
+    inner = [
+        AtKnot(after.x_prev, before.right_price, after.left_price, before.total, jumps(before.right_price, after.left_price, max(beside)))
+        for before, after, *beside in zip(sections, sections[1:], sizes, sizes[1:])
+    ]
+    return [AtKnot(first.x_prev, None, first.left_price, 0.0, False), *inner, AtKnot(last.x_next, last.right_price, None, last.total, False)]
+
+
+def jumps(left: float, right: float, scale: float) -> bool:
+    """Whether the two prices at a knot differ by more than rounding. One that is not finite differs from any other."""
+    return not abs(left - right) <= JUMP * scale < math.inf
+
+
+def rows_of(order: Order, curve: Curve, asked: Asked) -> Sequence[Union[AtPoint, OverRow, AtKnot]]:
+    """The answers to one thing that is asked."""
+    if isinstance(asked, Knots):
+        return at_knots(curve)
+    return at_points(order, curve, asked) if isinstance(asked, Points) else over_rows(curve, asked)
+
+
 def answer(order: Order) -> Answer:
     """The whole answer. Raises Stop where the table or a point is refused."""
     curve = curve_of(order)
-    tables = []
-    for asked in order.asked:
-        rows = at_points(order, curve, asked) if isinstance(asked, Points) else over_rows(curve, asked)
-        tables.append(Answered(asked, rows))
+    tables = [Answered(asked, rows_of(order, curve, asked)) for asked in order.asked]
     found = Answer(order, curve, tables, holdings(order, curve))
     found.keeping = keeping(order) if found.lost else ""
     found.before = [f"{order.place(line)}: {what}" for line, what in order.doubts] + left_out(order) + below_averages(order)
@@ -180,12 +215,16 @@ def answer(order: Order) -> Answer:
 # ---- What a period holds ----
 
 
+def scales(curve: Curve) -> List[float]:
+    """What rounding is judged by in each period: the largest of its average and its two nodes."""
+    nodes = curve.nodes
+    return [max(map(abs, three)) for three in zip(curve.traded[1:], nodes, nodes[1:])]
+
+
 def holdings(order: Order, curve: Curve) -> List[Held]:
     """What each period holds, by its own section: at its right knot a query is answered by the next one, which starts from the traded total."""
-    nodes = curve.nodes
     found = []
-    for k, section in enumerate(curve.sections):
-        scale = max(abs(order.averages[k + 1]), abs(nodes[k]), abs(nodes[k + 1]))
+    for k, (section, scale) in enumerate(zip(curve.sections, scales(curve))):
         looked = look_inside(section, 0.0, k + 1, order.averages[k + 1], scale)
         found.append(looked if looked.kept else look_again(section, looked, scale))
     return found
@@ -302,6 +341,11 @@ def not_finite(found: Answer) -> Tuple[int, List[str]]:
     for x, price, total in zip(xs, curve.values(xs), curve.primitives(xs)):
         if not (math.isfinite(price) and math.isfinite(total)):
             places.setdefault(period_at(order, x), f"no finite {'total' if math.isfinite(price) else 'price'} at {near(order, x)}")
+    for table in found.tables:
+        # The period that ends on a knot has the knot's own number.
+        for k, row in enumerate(table.rows):
+            if isinstance(row, AtKnot) and row.left is not None and not math.isfinite(row.left):
+                places.setdefault(k, f"no finite price just before {show(order, row.at)}")
     lines = [f"{order.place(order.average_lines[k])}: {what}: {period(order, k)} {cause(order, k)}" for k, what in sorted(places.items())]
     lines = told(lines, order, "periods with no finite price")
     if printed:
@@ -312,7 +356,7 @@ def not_finite(found: Answer) -> Tuple[int, List[str]]:
 
 
 def asked_points(found: Answer) -> List[float]:
-    return [x for table in found.tables for x in (table.asked.at if isinstance(table.asked, Points) else table.asked.edges)]
+    return [x for table in found.tables for x in (table.asked.edges if isinstance(table.asked, Rows) else table.asked.at)]
 
 
 def cause(order: Order, k: int) -> str:
@@ -346,13 +390,13 @@ def below_prices(found: Answer) -> List[str]:
     for x, price in zip(inner, curve.values(inner)):
         look(x, price, lambda: f"the price near {near(order, x)}")
     for section in curve.sections:
-        look(section.x_prev, section.value(section.x_next), lambda: f"the price just before {show(order, section.x_next)}")
+        look(section.x_prev, section.right_price, lambda: f"the price just before {show(order, section.x_next)}")
     for table in found.tables:
         for row in table.rows:
             if isinstance(row, OverRow):
                 look(row.start, row.price, lambda: f"the price at {show(order, row.start)}")
                 look(row.start, row.average, lambda: f"the average from {show(order, row.start)} to {show(order, row.end)}")
-            else:
+            elif isinstance(row, AtPoint):
                 look(row.at, row.price, lambda: f"the price at {show(order, row.at)}")
     lines = [
         f"{order.place(order.average_lines[k])}: {what} is {short(value)}, below 0 although positivity is on"

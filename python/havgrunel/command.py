@@ -56,6 +56,12 @@ averages below 0.
 running total at its end; 'at' the price at a point and the running total up to
 it. Under a table stands whether each period kept its average.
 
+--knots tells of each knot the price that the curve comes to from the left, the
+price that it goes on with to the right, and the running total up to it. It
+needs nothing to be asked. 'yes' in the last column marks a jump: the two prices
+differ by more than 1e-12 of the largest average or node of the two periods, or
+one of them is not finite. What is less is rounding.
+
 A file whose name ends in .csv or .tsv is a table alone, in rows of (period,
 price), (start, end, price) or (knot, average). Its separator, its decimal sign
 and the rows above it are found out. It asks 'daily' where --ask asks nothing.
@@ -121,16 +127,17 @@ def parser_of(prog: str) -> argparse.ArgumentParser:
     parser.add_argument("--set", metavar="SETTING", action="append", default=[], help=set_help)
     ask_help = "what is asked besides what the text asks, as 'hourly' or 'at 2026-10-15'; may be given several times"
     parser.add_argument("--ask", metavar="WORDS", action="append", default=[], help=ask_help)
+    parser.add_argument("--knots", action="store_true", help="tell the price at either side of each knot instead of what is asked")
     parser.add_argument("--scale", metavar="LOW:HIGH", help="the prices that a picture's axis spans, so that two pictures can be compared")
     parser.add_argument("--version", action=Shown, nargs=0, const=f"havgrunel {__version__}\n", help="print the version")
     parser.add_argument("-h", "--help", action=Shown, nargs=0, help="print this")
     return parser
 
 
-def read_one(path: str, sets: Sequence[str], asks: Sequence[str]) -> Order:
+def read_one(path: str, sets: Sequence[str], asks: Sequence[str], knots: bool) -> Order:
     data = read(path)
     name = "standard input" if path == "-" else path
-    return (read_csv if is_table(path) else read_order)(name, data, sets, asks)
+    return (read_csv if is_table(path) else read_order)(name, data, sets, asks, knots)
 
 
 def one_table(orders: Sequence[Order]) -> None:
@@ -199,8 +206,12 @@ def run(asked: argparse.Namespace) -> int:
         raise Stop(2, "several files are for --plot")
     if asked.scale is not None and option != "--plot":
         raise Stop(2, "--scale is for --plot")
+    if asked.knots and option in ("--plot", "--bytes"):
+        raise Stop(2, f"--knots is for a table, and {option} writes none")
+    if asked.knots and asked.ask:
+        raise Stop(2, "--knots tells of the knots instead of what is asked: leave --ask out")
     scale = scale_of(asked.scale)
-    orders = [read_one(path, asked.set, asked.ask) for path in asked.files]
+    orders = [read_one(path, asked.set, asked.ask, asked.knots) for path in asked.files]
     if option == "--plot":
         one_table(orders)
     if option in ("--csv", "--tsv"):

@@ -7,7 +7,7 @@ to no period. Where that leaves a choice between two numbers, the row is told an
 import csv
 import io
 import re
-from typing import Iterable, List, Sequence, Tuple
+from typing import Iterable, List, Optional, Sequence, Tuple
 
 from .faults import Bad, clipped, quoted
 from .periods import Item, item, items
@@ -19,6 +19,7 @@ SEPARATORS = ["\t", ";", "|", ","]
 
 ROW_NAMES = ["start", "end", "average", "price_at_start", "total_at_end"]
 POINT_NAMES = ["point", "price", "total"]
+KNOT_NAMES = ["knot", "price_from_left", "price_from_right", "total", "jump"]
 
 ROW_FORMS = "a row is a period and its price, START, END and a price, or a knot and its average"
 
@@ -170,16 +171,18 @@ def read_rows(strip: Strip, text: str) -> None:
             raise Located(line, fault) from None
 
 
-def read_csv(name: str, data: bytes, sets: Sequence[str] = (), asks: Sequence[str] = ()) -> Order:
+def read_csv(name: str, data: bytes, sets: Sequence[str] = (), asks: Sequence[str] = (), knots: bool = False) -> Order:
     """The order that a CSV file says. It has no settings but those of the command line, and asks 'daily' where that asks nothing."""
     order = begin(name, sets)
-    asked = options_asked(order, asks) or [("daily, as nothing else is asked", "daily")]
+    asked = options_asked(order, asks)
+    if not asked and not knots:
+        asked = [("daily, as nothing else is asked", "daily")]
     strip = Strip(order.settings["first average"] == "not read")
     try:
         read_rows(strip, decoded(data))
     except Located as fault:
         raise order.bad(fault.line, fault) from None
-    return finish(order, strip, asked)
+    return finish(order, strip, asked, knots)
 
 
 # ---- Out ----
@@ -193,9 +196,10 @@ def written(names: Sequence[str], rows: Iterable[Sequence[str]], separator: str)
 def is_own(start: bytes) -> bool:
     """Whether a file begins as one that this command writes."""
     first = start.partition(b"\n")[0].rstrip(b"\r")
-    return first in {separator.join(names).encode() for names in (ROW_NAMES, POINT_NAMES) for separator in ",\t"}
+    return first in {separator.join(names).encode() for names in (ROW_NAMES, POINT_NAMES, KNOT_NAMES) for separator in ",\t"}
 
 
-def full(x: float) -> str:
-    """Every digit of a number: the shortest text that reads back as the same float; nan, inf and -inf as pandas reads them."""
-    return repr(float(x))
+def full(x: Optional[float]) -> str:
+    """Every digit of a number: the shortest text that reads back as the same float; nan, inf and -inf as pandas reads them. An empty cell where there is
+    none."""
+    return "" if x is None else repr(float(x))

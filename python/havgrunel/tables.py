@@ -1,18 +1,20 @@
 """Answers as a printed table, with the check of each period under it, and as the rows of a CSV file."""
 
 import math
-from typing import List, Sequence, Tuple
+from typing import List, Optional, Sequence, Tuple
 
-from .answers import Answer, Answered, AtPoint, OverRow, period, short
-from .csvfile import POINT_NAMES, ROW_NAMES, full, written
-from .text import METHOD, SETTINGS, Order, Points, Rows, default_name, in_words, needs_clock, plain, show
+from .answers import Answer, Answered, AtKnot, AtPoint, OverRow, period, short
+from .csvfile import KNOT_NAMES, POINT_NAMES, ROW_NAMES, full, written
+from .text import METHOD, SETTINGS, Knots, Order, Points, Rows, default_name, in_words, needs_clock, plain, show
 
 # What the first column of rows is called.
 ROW_HEADS = {"daily": "day", "hourly": "hour"}
 
 
-def shown(x: float, exact: bool) -> str:
-    """A number of the table."""
+def shown(x: Optional[float], exact: bool) -> str:
+    """A number of the table, and a dash where there is none."""
+    if x is None:
+        return "-"
     if math.isnan(x):
         return "no-number"
     if math.isinf(x):
@@ -85,6 +87,20 @@ def row_table(order: Order, table: Answered, exact: bool) -> List[str]:
     return [*lines, note] if note else lines
 
 
+def knot_table(order: Order, table: Answered, exact: bool) -> List[str]:
+    assert isinstance(table.asked, Knots)
+    point, price, total = units(order)
+    heads = [("knot", "price from the left", "price from the right", "running total", "jump")]
+    if price or point or total:
+        heads.append((point, price, price, total, ""))
+    clock = needs_clock(order, table.asked.at)
+    rows = []
+    for row in table.rows:
+        assert isinstance(row, AtKnot)
+        rows.append((show(order, row.at, clock), *(shown(x, exact) for x in row[1:4]), "yes" if row.jump else ""))
+    return laid_out(heads, rows)
+
+
 def short_last(order: Order, asked: Rows) -> str:
     """A note on a last row that is shorter than the others."""
     if len(asked.edges) < 2 or len(asked.edges) == 2 and asked.edges[1] - asked.edges[0] >= asked.step:
@@ -117,7 +133,7 @@ def printed(answer: Answer, exact: bool = False) -> str:
     """The whole text: heading, tables and check."""
     lines = heading(answer.order)
     for table in answer.tables:
-        lay_out = point_table if isinstance(table.asked, Points) else row_table
+        lay_out = {Points: point_table, Rows: row_table, Knots: knot_table}[type(table.asked)]
         lines += ["", *lay_out(answer.order, table, exact)]
     return "\n".join([*lines, "", *check(answer)]) + "\n"
 
@@ -128,5 +144,8 @@ def file_text(answer: Answer, separator: str) -> str:
     if isinstance(table.asked, Points):
         clock = needs_clock(order, table.asked.at)
         return written(POINT_NAMES, ([show(order, row[0], clock), *map(full, row[1:])] for row in table.rows), separator)
+    if isinstance(table.asked, Knots):
+        clock = needs_clock(order, table.asked.at)
+        return written(KNOT_NAMES, ([show(order, row[0], clock), *map(full, row[1:4]), str(int(row[4]))] for row in table.rows), separator)
     clock = needs_clock(order, table.asked.edges)
     return written(ROW_NAMES, ([show(order, row[0], clock), show(order, row[1], clock), *map(full, row[2:])] for row in table.rows), separator)

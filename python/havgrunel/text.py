@@ -39,6 +39,16 @@ class Rows:
 
 
 @dataclass
+class Knots:
+    """The knots themselves, with the price at either side of each."""
+
+    at: List[float]
+
+
+Asked = Union[Points, Rows, Knots]
+
+
+@dataclass
 class Order:
     """An order, as it was read. The first average is 0.0 where it was left out. With dates, knots count days or hours from the start on."""
 
@@ -49,7 +59,7 @@ class Order:
     start: Union[datetime.date, datetime.datetime, None] = None
     knots: List[float] = field(default_factory=list)
     averages: List[float] = field(default_factory=list)
-    asked: List[Union[Points, Rows]] = field(default_factory=list)
+    asked: List[Asked] = field(default_factory=list)
     knot_lines: List[int] = field(default_factory=list)
     average_lines: List[int] = field(default_factory=list)
     setting_lines: Dict[str, Line] = field(default_factory=dict)
@@ -342,8 +352,8 @@ def unit_of(order: Order, strip: Strip, asked: Sequence[Tuple[Line, str]]) -> st
     return unit
 
 
-def finish(order: Order, strip: Strip, asked: Sequence[Tuple[Line, str]]) -> Order:
-    """The order, once its table is whole."""
+def finish(order: Order, strip: Strip, asked: Sequence[Tuple[Line, str]], knots: bool) -> Order:
+    """The order, once its table is whole. Where the knots are asked for, they are in place of all else that is asked."""
     order.dates = bool(strip.points) and not strip.counts()
     order.knots, order.averages = strip.knots(), strip.averages
     order.knot_lines = order.average_lines = strip.lines
@@ -358,6 +368,8 @@ def finish(order: Order, strip: Strip, asked: Sequence[Tuple[Line, str]]) -> Ord
             ask(order, read_asked(order, text, line))
         except Bad as fault:
             raise order.bad(line, fault) from None
+    if knots:
+        order.asked = [Knots(order.knots)]
     return order
 
 
@@ -383,8 +395,8 @@ def options_asked(order: Order, asks: Sequence[str]) -> List[Tuple[Line, str]]:
     return found
 
 
-def read_order(name: str, data: bytes, sets: Sequence[str] = (), asks: Sequence[str] = ()) -> Order:
-    """The order that a text says. `sets` and `asks` are settings and lines that ask, of the command line."""
+def read_order(name: str, data: bytes, sets: Sequence[str] = (), asks: Sequence[str] = (), knots: bool = False) -> Order:
+    """The order that a text says. `sets` and `asks` are settings and lines that ask, of the command line, and `knots` whether it asks for the knots."""
     order = begin(name, sets)
     more = options_asked(order, asks)
     try:
@@ -399,9 +411,9 @@ def read_order(name: str, data: bytes, sets: Sequence[str] = (), asks: Sequence[
             strip = read_line(order, strip, asked, whole, line)
         except Bad as fault:
             raise order.bad(line, fault) from None
-    if not asked and not more:
+    if not asked and not more and not knots:
         raise order.bad(line, "nothing is asked: a line 'daily', 'hourly', 'every STEP', or 'at' with points, is missing")
-    return finish(order, strip or Strip(), asked + more)
+    return finish(order, strip or Strip(), asked + more, knots)
 
 
 def read_line(order: Order, strip: Optional[Strip], asked: List[Tuple[Line, str]], whole: str, line: int) -> Optional[Strip]:
