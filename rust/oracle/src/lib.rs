@@ -6,6 +6,7 @@
 
 pub mod answers;
 pub mod asking;
+mod knots;
 mod nodes;
 mod recipe;
 mod record;
@@ -48,6 +49,7 @@ pub use judge::{
     Curve, Section, build, build_with, combination_accepts, default_settings, grow, section,
     section_of,
 };
+pub use knots::knots;
 pub use nodes::nodes;
 pub use recipe::{Convex, Quadratic, Recipe};
 pub use record::{Record, SLOTS, legal_tags};
