@@ -52,7 +52,21 @@ enum havgrunel_refusal {
 
 /* A curve of n points takes n nodes, n - 1 tags and HAVGRUNEL_SLOTS slots for each tag. */
 #define HAVGRUNEL_MOST_POINTS 4096
-#define HAVGRUNEL_SLOTS 24
+#define HAVGRUNEL_SLOTS 27
+
+/*
+ * What the slots of a section's record in a curve hold. The first HAVGRUNEL_FIELDS are the numbers of the section itself, which its tag says how to read.
+ * Behind them stand three numbers of its period: the price that the section's own formula gives at the left knot, where the period starts; the price that
+ * it gives at the right knot, where the period ends; and the running total after the period, from which the next section starts: the sum from the left, of
+ * each average times the length of its period. Every section of a curve has them, the only one of two points and a held last one too. They are what the
+ * formulas give, which may be infinite or a NaN. No call that reads a curve looks at them, but for havgrunel_record.
+ *
+ * So the price left of an inner knot is the right price of the section that ends there, and the price right of it the left price of the next section.
+ */
+#define HAVGRUNEL_FIELDS 24
+#define HAVGRUNEL_LEFT_PRICE 24
+#define HAVGRUNEL_RIGHT_PRICE 25
+#define HAVGRUNEL_TOTAL_AFTER 26
 
 /* The splits by their numbers, as every call that builds takes them. What each does is said at havgrunel_build. */
 #define HAVGRUNEL_SPLIT_ORIGINAL 0
@@ -245,9 +259,9 @@ uint8_t havgrunel_primitives(
 uint8_t havgrunel_derivative(double x);
 
 /*
- * The 24 slots of section `number`, counted from 0, of a curve of `points` points, into the first 24 entries of `into`. Its tag is tags[number].
+ * The HAVGRUNEL_SLOTS slots of section `number`, counted from 0, of a curve of `points` points, into the first entries of `into`. Its tag is tags[number].
  *
- * Refused in the order 4, 10, 11 (also for an `into` of fewer than 24 entries), 15 for a number that no section has.
+ * Refused in the order 4, 10, 11 (also for an `into` of fewer than HAVGRUNEL_SLOTS entries), 15 for a number that no section has.
  */
 uint8_t havgrunel_record(
     size_t points,
@@ -257,9 +271,9 @@ uint8_t havgrunel_record(
 
 /*
  * What the section of one record answers by itself, whatever x is: answer[0] is its value at x, answer[1] its primitive at x, answer[2] the node
- * that it ends on. The slots are the record's own, 24 of them.
+ * that it ends on. The slots are the record's own, and only the first HAVGRUNEL_FIELDS are looked at.
  *
- * Refused by 11 for an `answer` of fewer than 3 entries, then by 15 for a tag that is not legal or fewer than 24 slots.
+ * Refused by 11 for an `answer` of fewer than 3 entries, then by 15 for a tag that is not legal or fewer than HAVGRUNEL_FIELDS slots.
  */
 uint8_t havgrunel_section(
     uint16_t tag,
@@ -268,8 +282,8 @@ uint8_t havgrunel_section(
     double *answer, size_t answer_count);
 
 /*
- * A single section of each kind from its own numbers: its tag into tag[0], its slots into the first 24 entries of `slots`. Any numbers are taken.
- * Refused by 11 alone.
+ * A single section of each kind from its own numbers: its tag into tag[0], its fields into the first HAVGRUNEL_FIELDS entries of `slots`. It belongs to no
+ * period, so there are no prices at knots and no total behind them. Any numbers are taken. Refused by 11 alone, for fewer entries than that or no tag.
  *
  * A combination's record is put together from two: slot 0 is the weight of the quadratic one, slots 1 to 12 are that one's, slots 13 to 23 the
  * other's, and its tag is the sum of the two tags.

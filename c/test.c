@@ -34,6 +34,9 @@ static bool same(double a, double b)
 /* Buffers for curves of up to 8 points, one entry longer than they need to be. */
 enum { POINTS = 8, NODES = POINTS + 1, TAGS = POINTS, SLOTS = HAVGRUNEL_SLOTS * (POINTS - 1) + 1 };
 
+/* The numbers of a section itself, room for a record and one entry more, and the slots of the two sections of three points. */
+enum { FIELDS = HAVGRUNEL_FIELDS, ROOM = HAVGRUNEL_SLOTS + 1, TWO = 2 * HAVGRUNEL_SLOTS };
+
 struct curve {
     double nodes[NODES];
     uint16_t tags[TAGS];
@@ -239,15 +242,15 @@ static void refused_tables(void)
 
     /* each buffer one entry too short; a table's own refusal comes before them */
     fill(&c);
-    CHECK(build_in(&three, false, false, 0, 0.0, 2, 2, 48, 1, 3, &c) == HAVGRUNEL_BUFFER_TOO_SHORT && untouched(&c));
-    CHECK(build_in(&three, false, false, 0, 0.0, 3, 1, 48, 1, 3, &c) == HAVGRUNEL_BUFFER_TOO_SHORT && untouched(&c));
-    CHECK(build_in(&three, false, false, 0, 0.0, 3, 2, 47, 1, 3, &c) == HAVGRUNEL_BUFFER_TOO_SHORT && untouched(&c));
-    CHECK(build_in(&three, false, false, 0, 0.0, 3, 2, 48, 0, 3, &c) == HAVGRUNEL_BUFFER_TOO_SHORT && untouched(&c));
-    CHECK(build_in(&three, false, false, 0, 0.0, 3, 2, 48, 1, 2, &c) == HAVGRUNEL_BUFFER_TOO_SHORT && untouched(&c));
+    CHECK(build_in(&three, false, false, 0, 0.0, 2, 2, TWO, 1, 3, &c) == HAVGRUNEL_BUFFER_TOO_SHORT && untouched(&c));
+    CHECK(build_in(&three, false, false, 0, 0.0, 3, 1, TWO, 1, 3, &c) == HAVGRUNEL_BUFFER_TOO_SHORT && untouched(&c));
+    CHECK(build_in(&three, false, false, 0, 0.0, 3, 2, TWO - 1, 1, 3, &c) == HAVGRUNEL_BUFFER_TOO_SHORT && untouched(&c));
+    CHECK(build_in(&three, false, false, 0, 0.0, 3, 2, TWO, 0, 3, &c) == HAVGRUNEL_BUFFER_TOO_SHORT && untouched(&c));
+    CHECK(build_in(&three, false, false, 0, 0.0, 3, 2, TWO, 1, 2, &c) == HAVGRUNEL_BUFFER_TOO_SHORT && untouched(&c));
     t = three;
     t.knots = level;
-    CHECK(build_in(&t, false, false, 0, 0.0, 3, 2, 48, 0, 0, &c) == HAVGRUNEL_KNOTS_NOT_RISING && untouched(&c));
-    CHECK(build_in(&three, false, false, 0, 0.0, 3, 2, 48, 1, 3, &c) == 0 && rest_untouched(&c, 3));
+    CHECK(build_in(&t, false, false, 0, 0.0, 3, 2, TWO, 0, 0, &c) == HAVGRUNEL_KNOTS_NOT_RISING && untouched(&c));
+    CHECK(build_in(&three, false, false, 0, 0.0, 3, 2, TWO, 1, 3, &c) == 0 && rest_untouched(&c, 3));
 
     const size_t many = HAVGRUNEL_MOST_POINTS + 1;
     double *days = malloc(many * sizeof *days);
@@ -279,17 +282,17 @@ static void refused_queries(void)
     CHECK(refuses(&t, &c, false, NAN, HAVGRUNEL_KNOTS_NOT_RISING));
 
     double v = -1.0;
-    CHECK(havgrunel_value(three_knots, 3, c.tags, 1, c.slots, 48, 0.0, 0.0, 0.0, false, 0.5, &v, 1) == HAVGRUNEL_BUFFER_TOO_SHORT);
-    CHECK(havgrunel_value(three_knots, 3, c.tags, 2, c.slots, 47, 0.0, 0.0, 0.0, false, 0.5, &v, 1) == HAVGRUNEL_BUFFER_TOO_SHORT);
-    CHECK(havgrunel_primitive(three_knots, 3, c.tags, 2, c.slots, 48, 0.0, 0.0, 0.0, false, 0.5, NULL, 0) == HAVGRUNEL_BUFFER_TOO_SHORT);
+    CHECK(havgrunel_value(three_knots, 3, c.tags, 1, c.slots, TWO, 0.0, 0.0, 0.0, false, 0.5, &v, 1) == HAVGRUNEL_BUFFER_TOO_SHORT);
+    CHECK(havgrunel_value(three_knots, 3, c.tags, 2, c.slots, TWO - 1, 0.0, 0.0, 0.0, false, 0.5, &v, 1) == HAVGRUNEL_BUFFER_TOO_SHORT);
+    CHECK(havgrunel_primitive(three_knots, 3, c.tags, 2, c.slots, TWO, 0.0, 0.0, 0.0, false, 0.5, NULL, 0) == HAVGRUNEL_BUFFER_TOO_SHORT);
     /* A short answer is an 11 and stands where 11 stands: after 4, 5, 7 and 10, before 12, 13 and 15. */
-    CHECK(havgrunel_primitive(three_knots, 1, c.tags, 2, c.slots, 48, 0.0, 0.0, 0.0, false, NAN, NULL, 0) == HAVGRUNEL_TOO_FEW_POINTS);
-    CHECK(havgrunel_value(infinite, 3, c.tags, 2, c.slots, 48, 0.0, 0.0, 0.0, false, NAN, NULL, 0) == HAVGRUNEL_KNOT_NOT_FINITE);
-    CHECK(havgrunel_primitive(level, 3, c.tags, 2, c.slots, 48, 0.0, 0.0, 0.0, false, NAN, NULL, 0) == HAVGRUNEL_KNOTS_NOT_RISING);
-    CHECK(havgrunel_value(three_knots, 3, c.tags, 2, c.slots, 48, 0.0, 0.0, 0.0, false, NAN, NULL, 0) == HAVGRUNEL_BUFFER_TOO_SHORT);
-    CHECK(havgrunel_primitive(three_knots, 3, c.tags, 2, c.slots, 48, 0.0, 0.0, 0.0, false, 9.5, NULL, 0) == HAVGRUNEL_BUFFER_TOO_SHORT);
-    CHECK(havgrunel_value(three_knots, 3, no_kinds, 2, c.slots, 48, 0.0, 0.0, 0.0, false, 0.5, NULL, 0) == HAVGRUNEL_BUFFER_TOO_SHORT);
-    CHECK(havgrunel_value(three_knots, 3, no_kinds, 2, c.slots, 48, 0.0, 0.0, 0.0, false, 0.5, &v, 1) == HAVGRUNEL_RECORD_NOT_LEGAL);
+    CHECK(havgrunel_primitive(three_knots, 1, c.tags, 2, c.slots, TWO, 0.0, 0.0, 0.0, false, NAN, NULL, 0) == HAVGRUNEL_TOO_FEW_POINTS);
+    CHECK(havgrunel_value(infinite, 3, c.tags, 2, c.slots, TWO, 0.0, 0.0, 0.0, false, NAN, NULL, 0) == HAVGRUNEL_KNOT_NOT_FINITE);
+    CHECK(havgrunel_primitive(level, 3, c.tags, 2, c.slots, TWO, 0.0, 0.0, 0.0, false, NAN, NULL, 0) == HAVGRUNEL_KNOTS_NOT_RISING);
+    CHECK(havgrunel_value(three_knots, 3, c.tags, 2, c.slots, TWO, 0.0, 0.0, 0.0, false, NAN, NULL, 0) == HAVGRUNEL_BUFFER_TOO_SHORT);
+    CHECK(havgrunel_primitive(three_knots, 3, c.tags, 2, c.slots, TWO, 0.0, 0.0, 0.0, false, 9.5, NULL, 0) == HAVGRUNEL_BUFFER_TOO_SHORT);
+    CHECK(havgrunel_value(three_knots, 3, no_kinds, 2, c.slots, TWO, 0.0, 0.0, 0.0, false, 0.5, NULL, 0) == HAVGRUNEL_BUFFER_TOO_SHORT);
+    CHECK(havgrunel_value(three_knots, 3, no_kinds, 2, c.slots, TWO, 0.0, 0.0, 0.0, false, 0.5, &v, 1) == HAVGRUNEL_RECORD_NOT_LEGAL);
     CHECK(same(v, -1.0));
 
     /* a record that is not legal is read only where a query needs it */
@@ -302,14 +305,14 @@ static void refused_queries(void)
 static bool section_is(uint16_t tag, const double *slots, double x, double value, double primitive, double f_next)
 {
     double a[4] = {-1.0, -1.0, -1.0, -1.0};
-    return havgrunel_section(tag, slots, HAVGRUNEL_SLOTS, x, a, 3) == 0 && same(a[0], value) && same(a[1], primitive) && same(a[2], f_next)
+    return havgrunel_section(tag, slots, FIELDS, x, a, 3) == 0 && same(a[0], value) && same(a[1], primitive) && same(a[2], f_next)
         && same(a[3], -1.0);
 }
 
 static double value_of(uint16_t tag, const double *slots, double x)
 {
     double a[3] = {-1.0, -1.0, -1.0};
-    CHECK(havgrunel_section(tag, slots, HAVGRUNEL_SLOTS, x, a, 3) == 0);
+    CHECK(havgrunel_section(tag, slots, FIELDS, x, a, 3) == 0);
     return a[0];
 }
 
@@ -317,105 +320,224 @@ static void records(void)
 {
     struct curve c;
     CHECK(build(&three, false, &c) == 0);
-    double into[25];
+    double into[ROOM];
     memset(into, 0x5a, sizeof into);
-    const double old = into[24];
-    CHECK(havgrunel_record(3, c.slots, SLOTS, 1, into, 25) == 0);
-    CHECK(memcmp(into, c.slots + HAVGRUNEL_SLOTS, HAVGRUNEL_SLOTS * sizeof *into) == 0 && same(into[24], old));
+    const double old = into[HAVGRUNEL_SLOTS];
+    CHECK(havgrunel_record(3, c.slots, SLOTS, 1, into, ROOM) == 0);
+    CHECK(memcmp(into, c.slots + HAVGRUNEL_SLOTS, HAVGRUNEL_SLOTS * sizeof *into) == 0 && same(into[HAVGRUNEL_SLOTS], old));
     /* the weight of a quadratic part alone, where it starts, its length; and nothing in the other part */
-    CHECK(same(into[0], 1.0) && same(into[1], 1.0) && same(into[2], 1.0) && same(into[13], 0.0) && same(into[23], 0.0));
+    CHECK(same(into[0], 1.0) && same(into[1], 1.0) && same(into[2], 1.0) && same(into[13], 0.0) && same(into[FIELDS - 1], 0.0));
     CHECK(section_is(c.tags[1], into, 2.0, 3.5, 4.0, 3.5));
 
-    CHECK(havgrunel_record(1, c.slots, SLOTS, 0, into, 25) == HAVGRUNEL_TOO_FEW_POINTS);
-    CHECK(havgrunel_record(4097, c.slots, SLOTS, 0, into, 25) == HAVGRUNEL_TOO_MANY_POINTS);
-    CHECK(havgrunel_record(3, c.slots, 47, 0, into, 25) == HAVGRUNEL_BUFFER_TOO_SHORT);
-    CHECK(havgrunel_record(3, c.slots, 48, 2, into, 25) == HAVGRUNEL_RECORD_NOT_LEGAL);
-    CHECK(havgrunel_record(3, c.slots, 48, 2, into, 0) == HAVGRUNEL_BUFFER_TOO_SHORT);
+    CHECK(havgrunel_record(1, c.slots, SLOTS, 0, into, ROOM) == HAVGRUNEL_TOO_FEW_POINTS);
+    CHECK(havgrunel_record(4097, c.slots, SLOTS, 0, into, ROOM) == HAVGRUNEL_TOO_MANY_POINTS);
+    CHECK(havgrunel_record(3, c.slots, TWO - 1, 0, into, ROOM) == HAVGRUNEL_BUFFER_TOO_SHORT);
+    CHECK(havgrunel_record(3, c.slots, TWO, 2, into, ROOM) == HAVGRUNEL_RECORD_NOT_LEGAL);
+    CHECK(havgrunel_record(3, c.slots, TWO, 2, into, 0) == HAVGRUNEL_BUFFER_TOO_SHORT);
     CHECK(havgrunel_record(1, c.slots, SLOTS, 2, into, 0) == HAVGRUNEL_TOO_FEW_POINTS);
     CHECK(havgrunel_record(4097, c.slots, SLOTS, 2, into, 0) == HAVGRUNEL_TOO_MANY_POINTS);
-    CHECK(havgrunel_record(3, c.slots, 48, 0, into, 23) == HAVGRUNEL_BUFFER_TOO_SHORT);
+    CHECK(havgrunel_record(3, c.slots, TWO, 0, into, HAVGRUNEL_SLOTS - 1) == HAVGRUNEL_BUFFER_TOO_SHORT);
     CHECK(memcmp(into, c.slots + HAVGRUNEL_SLOTS, HAVGRUNEL_SLOTS * sizeof *into) == 0);
 
     double a[3] = {-1.0, -1.0, -1.0};
-    CHECK(havgrunel_section(0x0000, c.slots, 24, 0.5, a, 3) == HAVGRUNEL_RECORD_NOT_LEGAL);
-    CHECK(havgrunel_section(0x2000, c.slots, 23, 0.5, a, 3) == HAVGRUNEL_RECORD_NOT_LEGAL);
-    CHECK(havgrunel_section(0x0000, c.slots, 24, 0.5, a, 0) == HAVGRUNEL_BUFFER_TOO_SHORT);
-    CHECK(havgrunel_section(0x2000, c.slots, 24, 0.5, a, 2) == HAVGRUNEL_BUFFER_TOO_SHORT);
+    CHECK(havgrunel_section(0x0000, c.slots, FIELDS, 0.5, a, 3) == HAVGRUNEL_RECORD_NOT_LEGAL);
+    CHECK(havgrunel_section(0x2000, c.slots, FIELDS - 1, 0.5, a, 3) == HAVGRUNEL_RECORD_NOT_LEGAL);
+    CHECK(havgrunel_section(0x0000, c.slots, FIELDS, 0.5, a, 0) == HAVGRUNEL_BUFFER_TOO_SHORT);
+    CHECK(havgrunel_section(0x2000, c.slots, FIELDS, 0.5, a, 2) == HAVGRUNEL_BUFFER_TOO_SHORT);
     CHECK(same(a[0], -1.0) && same(a[1], -1.0) && same(a[2], -1.0));
+}
+
+/* What the record of a section says behind its fields: these prices at its two knots, which are its own, and this total after its period. */
+static bool told_at_knots(const struct table *t, const struct curve *c, size_t number, double left, double right, double total)
+{
+    double s[HAVGRUNEL_SLOTS];
+    const uint16_t tag = c->tags[number];
+    return havgrunel_record(t->knots_count, c->slots, SLOTS, number, s, HAVGRUNEL_SLOTS) == 0 && same(s[HAVGRUNEL_LEFT_PRICE], left)
+        && same(s[HAVGRUNEL_RIGHT_PRICE], right) && same(s[HAVGRUNEL_TOTAL_AFTER], total) && same(value_of(tag, s, t->knots[number]), left)
+        && same(value_of(tag, s, t->knots[number + 1]), right);
+}
+
+/* Writes over what the records of a curve say behind their fields. */
+static void spoil_knots(struct curve *c)
+{
+    for (size_t number = 0; number < c->sections[0]; number++) {
+        for (size_t slot = FIELDS; slot < HAVGRUNEL_SLOTS; slot++)
+            c->slots[HAVGRUNEL_SLOTS * number + slot] = NAN;
+    }
+}
+
+static void knot_prices(void)
+{
+    struct curve c;
+    CHECK(build(&three, false, &c) == 0);
+    CHECK(told_at_knots(&three, &c, 0, 0.5, 2.0, 1.0) && told_at_knots(&three, &c, 1, 2.0, 3.5, 4.0));
+
+    /* a held last period, whose price is not that of the period before it at the knot between them */
+    CHECK(build(&three, true, &c) == 0);
+    CHECK(told_at_knots(&three, &c, 0, 0.5, 2.0, 1.0) && told_at_knots(&three, &c, 1, 3.0, 3.0, 4.0));
+
+    /* two points: the total at the last knot, where the curve's tail starts at the first */
+    const struct table two = {three_knots + 1, 2, three_averages + 1, 2, 0.0, 1.0, false, HAVGRUNEL_SPLIT_ORIGINAL};
+    for (int hold = 0; hold < 2; hold++) {
+        CHECK(build(&two, hold == 1, &c) == 0 && same(c.tail[1], 0.0));
+        CHECK(told_at_knots(&two, &c, 0, 3.0, 3.0, 3.0));
+    }
+
+    /* what the formulas give, whatever it is: no number at the left knot of a period that traded at 0, and an infinite total */
+    const double knots[] = {0.0, 1.0, 2.0, 3.0};
+    const double averages[] = {0.0, 2.0, 0.0, 2.0};
+    const struct table zero = {knots, 4, averages, 4, 0.0, 0.7, true, HAVGRUNEL_SPLIT_ORIGINAL};
+    CHECK(build(&zero, false, &c) == 0);
+    CHECK(told_at_knots(&zero, &c, 1, NAN, c.slots[HAVGRUNEL_SLOTS + HAVGRUNEL_RIGHT_PRICE], 2.0));
+    const double far[] = {0.0, 0x1p1000, 0x1p1001};
+    const double high[] = {0.0, 0x1p1000, 0x1p1000};
+    const struct table large = {far, 3, high, 3, 0.0, 0.7, false, HAVGRUNEL_SPLIT_ORIGINAL};
+    CHECK(build(&large, false, &c) == 0);
+    CHECK(told_at_knots(&large, &c, 0, 0x1p1000, 0x1p1000, INFINITY) && told_at_knots(&large, &c, 1, 0x1p1000, 0x1p1000, INFINITY));
+
+    /* a query reads none of the three */
+    CHECK(build(&three, false, &c) == 0);
+    spoil_knots(&c);
+    CHECK(answers(&three, &c, false, 1.0, 2.0, 1.0) && answers(&three, &c, false, 2.0, 3.5, 4.0));
+}
+
+/* One slot too few for each section is an 11, though every section's own numbers would find room. */
+static void a_slot_short_of_each(void)
+{
+    const size_t few = TWO - 2;
+    struct curve c;
+    fill(&c);
+    CHECK(build_in(&three, false, false, 0, 0.0, NODES, TAGS, few, 2, 4, &c) == HAVGRUNEL_BUFFER_TOO_SHORT && untouched(&c));
+    CHECK(build(&three, false, &c) == 0);
+    double v = -1.0;
+    CHECK(havgrunel_value(three_knots, 3, c.tags, 2, c.slots, few, 0.0, 0.0, 0.0, false, 0.5, &v, 1) == HAVGRUNEL_BUFFER_TOO_SHORT);
+    CHECK(havgrunel_primitive(three_knots, 3, c.tags, 2, c.slots, few, 0.0, 0.0, 0.0, false, 0.5, &v, 1) == HAVGRUNEL_BUFFER_TOO_SHORT);
+    const double x = 0.5;
+    CHECK(havgrunel_values(three_knots, 3, c.tags, 2, c.slots, few, 0.0, 0.0, 0.0, false, &x, 1, &v, 1) == HAVGRUNEL_BUFFER_TOO_SHORT);
+    CHECK(havgrunel_primitives(three_knots, 3, c.tags, 2, c.slots, few, 0.0, 0.0, 0.0, false, &x, 1, &v, 1) == HAVGRUNEL_BUFFER_TOO_SHORT);
+    CHECK(same(v, -1.0));
+    double into[HAVGRUNEL_SLOTS];
+    double old[HAVGRUNEL_SLOTS];
+    memset(into, 0x5a, sizeof into);
+    memset(old, 0x5a, sizeof old);
+    CHECK(havgrunel_record(3, c.slots, few, 0, into, HAVGRUNEL_SLOTS) == HAVGRUNEL_BUFFER_TOO_SHORT);
+    CHECK(havgrunel_record(3, c.slots, TWO, 0, into, HAVGRUNEL_SLOTS - 1) == HAVGRUNEL_BUFFER_TOO_SHORT);
+    CHECK(memcmp(into, old, sizeof old) == 0);
+}
+
+typedef uint8_t of_six(double, double, double, double, double, double, uint16_t *, size_t, double *, size_t);
+typedef uint8_t of_seven(double, double, double, double, double, double, double, uint16_t *, size_t, double *, size_t);
+
+static of_six *const quadratic_kinds[] = {havgrunel_quadratic, havgrunel_quadratic_min, havgrunel_quadratic_min_careful, havgrunel_quadratic_min_safe};
+static of_seven *const convex_kinds[] = {havgrunel_convex_monotone2, havgrunel_convex_monotone3, havgrunel_convex_monotone4,
+    havgrunel_convex_monotone4_min, havgrunel_convex_monotone4_min_safe};
+
+enum { QUADRATICS = sizeof quadratic_kinds / sizeof *quadratic_kinds, CONVEXES = sizeof convex_kinds / sizeof *convex_kinds };
+
+/* A section of any kind, by its place among all. */
+static uint8_t kind(size_t place, uint16_t *tag, double *slots, size_t room)
+{
+    if (place < QUADRATICS)
+        return quadratic_kinds[place](0.0, 1.0, 4.0, 1.0, 0.5, 0.0, tag, 1, slots, room);
+    if (place < QUADRATICS + CONVEXES)
+        return convex_kinds[place - QUADRATICS](0.0, 1.0, 1.0, 1.0, 0.25, 0.5, 0.0, tag, 1, slots, room);
+    if (place == QUADRATICS + CONVEXES)
+        return havgrunel_constant_grad(1.0, 0.0, 0.0, 2.0, 3.0, tag, 1, slots, room);
+    return havgrunel_everywhere_constant(2.0, 3.0, 1.0, tag, 1, slots, room);
+}
+
+/* A single section has its fields alone: they are all the room that it takes, and nothing is written behind them, whatever room is there. */
+static void fields_alone(void)
+{
+    double old[ROOM];
+    memset(old, 0x5a, sizeof old);
+    for (size_t place = 0; place < QUADRATICS + CONVEXES + 2; place++) {
+        for (size_t room = FIELDS - 1; room <= ROOM; room++) {
+            const size_t written = room < FIELDS ? 0 : FIELDS;
+            double s[ROOM];
+            uint16_t tag = 0;
+            memcpy(s, old, sizeof s);
+            CHECK(kind(place, &tag, s, room) == (written == 0 ? HAVGRUNEL_BUFFER_TOO_SHORT : 0) && (tag == 0) == (written == 0));
+            size_t first_old = 0;
+            while (first_old < written && bits(s[first_old]) != bits(old[first_old]))
+                first_old++;
+            CHECK(first_old == written && memcmp(s + written, old + written, (ROOM - written) * sizeof *s) == 0);
+        }
+    }
 }
 
 static void kinds(void)
 {
     uint16_t tag = 0;
-    double s[HAVGRUNEL_SLOTS];
+    double s[FIELDS];
 
-    CHECK(havgrunel_everywhere_constant(2.0, 3.0, 1.0, &tag, 1, s, 24) == 0 && tag == 0x0100);
+    CHECK(havgrunel_everywhere_constant(2.0, 3.0, 1.0, &tag, 1, s, FIELDS) == 0 && tag == 0x0100);
     CHECK(section_is(tag, s, 3.0, 2.0, 7.0, 2.0));
 
-    CHECK(havgrunel_constant_grad(1.0, 0.0, 0.0, 2.0, 3.0, &tag, 1, s, 24) == 0 && tag == 0x0200);
+    CHECK(havgrunel_constant_grad(1.0, 0.0, 0.0, 2.0, 3.0, &tag, 1, s, FIELDS) == 0 && tag == 0x0200);
     CHECK(section_is(tag, s, 1.0, 2.0, 1.5, 3.0));
 
-    CHECK(havgrunel_convex_monotone2(0.0, 1.0, -1.0, 5.0, 2.0, 0.5, 0.0, &tag, 1, s, 24) == 0 && tag == 0x0300);
+    CHECK(havgrunel_convex_monotone2(0.0, 1.0, -1.0, 5.0, 2.0, 0.5, 0.0, &tag, 1, s, FIELDS) == 0 && tag == 0x0300);
     CHECK(section_is(tag, s, 0.25, 1.0, 0.25, 7.0) && same(value_of(tag, s, 0.75), 2.5));
 
-    CHECK(havgrunel_convex_monotone3(0.0, 1.0, 2.0, -1.0, 2.0, 0.5, 0.0, &tag, 1, s, 24) == 0 && tag == 0x0400);
+    CHECK(havgrunel_convex_monotone3(0.0, 1.0, 2.0, -1.0, 2.0, 0.5, 0.0, &tag, 1, s, FIELDS) == 0 && tag == 0x0400);
     CHECK(same(value_of(tag, s, 0.25), 1.75) && same(value_of(tag, s, 0.75), 1.0));
 
-    CHECK(havgrunel_convex_monotone4(0.0, 1.0, 1.0, 1.0, 2.0, 0.5, 0.0, &tag, 1, s, 24) == 0 && tag == 0x0500);
+    CHECK(havgrunel_convex_monotone4(0.0, 1.0, 1.0, 1.0, 2.0, 0.5, 0.0, &tag, 1, s, FIELDS) == 0 && tag == 0x0500);
     CHECK(same(value_of(tag, s, 0.0), 3.0) && same(value_of(tag, s, 0.5), 1.5));
     /* the joint at the left knot: nothing is left to divide by */
-    CHECK(havgrunel_convex_monotone4(0.0, 1.0, 1.0, 0.0, 1.0, 0.0, 0.0, &tag, 1, s, 24) == 0 && isnan(value_of(tag, s, 0.0)));
+    CHECK(havgrunel_convex_monotone4(0.0, 1.0, 1.0, 0.0, 1.0, 0.0, 0.0, &tag, 1, s, FIELDS) == 0 && isnan(value_of(tag, s, 0.0)));
 
-    CHECK(havgrunel_convex_monotone4_min(0.0, 1.0, 1.0, 1.0, 2.0, 0.5, 0.0, &tag, 1, s, 24) == 0 && tag == 0x0600);
+    CHECK(havgrunel_convex_monotone4_min(0.0, 1.0, 1.0, 1.0, 2.0, 0.5, 0.0, &tag, 1, s, FIELDS) == 0 && tag == 0x0600);
     CHECK(same(value_of(tag, s, 0.0), 3.0) && same(value_of(tag, s, 0.5), 1.5));
-    CHECK(havgrunel_convex_monotone4_min(0.0, 1.0, 1.0, 1.0, 0.25, 0.5, 0.0, &tag, 1, s, 24) == 0 && tag == 0x0680);
+    CHECK(havgrunel_convex_monotone4_min(0.0, 1.0, 1.0, 1.0, 0.25, 0.5, 0.0, &tag, 1, s, FIELDS) == 0 && tag == 0x0680);
     CHECK(same(value_of(tag, s, 0.5), 0.0));
 
-    CHECK(havgrunel_quadratic(0.0, 1.0, 0.5, 2.0, 1.0, 0.0, &tag, 1, s, 24) == 0 && tag == 0x2000);
+    CHECK(havgrunel_quadratic(0.0, 1.0, 0.5, 2.0, 1.0, 0.0, &tag, 1, s, FIELDS) == 0 && tag == 0x2000);
     CHECK(section_is(tag, s, 1.0, 2.0, 1.0, 2.0) && same(value_of(tag, s, 0.5), 0.875));
 
-    CHECK(havgrunel_quadratic_min(0.0, 1.0, 4.0, 1.0, 0.5, 0.0, &tag, 1, s, 24) == 0 && tag == 0x5000);
+    CHECK(havgrunel_quadratic_min(0.0, 1.0, 4.0, 1.0, 0.5, 0.0, &tag, 1, s, FIELDS) == 0 && tag == 0x5000);
     CHECK(same(value_of(tag, s, 0.25), 0.25) && same(value_of(tag, s, 0.5), 0.0) && same(value_of(tag, s, 1.0), 1.0));
-    CHECK(havgrunel_quadratic_min(0.0, 1.0, 4.0, 1.0, 3.0, 0.0, &tag, 1, s, 24) == 0 && same(s[12], 3.0) && same(value_of(tag, s, 0.75), 1.5625));
+    CHECK(havgrunel_quadratic_min(0.0, 1.0, 4.0, 1.0, 3.0, 0.0, &tag, 1, s, FIELDS) == 0 && same(s[12], 3.0) && same(value_of(tag, s, 0.75), 1.5625));
 
     /* the same three by the careful rule: split at a ratio of 0.5, and left whole at 3, where the average is then kept, and at 0 */
     uint16_t min_tag = 0;
-    double min[HAVGRUNEL_SLOTS];
-    CHECK(havgrunel_quadratic_min(0.0, 1.0, 4.0, 1.0, 0.5, 0.0, &min_tag, 1, min, 24) == 0);
-    CHECK(havgrunel_quadratic_min_careful(0.0, 1.0, 4.0, 1.0, 0.5, 0.0, &tag, 1, s, 24) == 0 && tag == min_tag && memcmp(s, min, sizeof s) == 0);
-    CHECK(havgrunel_quadratic_min_careful(0.0, 1.0, 4.0, 1.0, 3.0, 0.0, &tag, 1, s, 24) == 0 && tag == 0x4000 && same(s[12], 1.0));
+    double min[FIELDS];
+    CHECK(havgrunel_quadratic_min(0.0, 1.0, 4.0, 1.0, 0.5, 0.0, &min_tag, 1, min, FIELDS) == 0);
+    CHECK(havgrunel_quadratic_min_careful(0.0, 1.0, 4.0, 1.0, 0.5, 0.0, &tag, 1, s, FIELDS) == 0 && tag == min_tag && memcmp(s, min, sizeof s) == 0);
+    CHECK(havgrunel_quadratic_min_careful(0.0, 1.0, 4.0, 1.0, 3.0, 0.0, &tag, 1, s, FIELDS) == 0 && tag == 0x4000 && same(s[12], 1.0));
     CHECK(same(value_of(tag, s, 0.75), 2.3125) && section_is(tag, s, 1.0, 1.0, 3.0, 1.0));
-    CHECK(havgrunel_quadratic_min(0.0, 1.0, 4.0, 1.0, 0.0, 0.0, &min_tag, 1, min, 24) == 0 && min_tag == 0x5000 && same(min[12], 0.0));
-    CHECK(havgrunel_quadratic_min_careful(0.0, 1.0, 4.0, 1.0, 0.0, 0.0, &tag, 1, s, 24) == 0 && tag == 0x4000 && same(s[12], 1.0));
-    CHECK(havgrunel_quadratic_min_careful(0.0, 1.0, 4.0, 1.0, 3.0, 0.0, &tag, 1, s, 23) == HAVGRUNEL_BUFFER_TOO_SHORT && tag == 0x4000);
+    CHECK(havgrunel_quadratic_min(0.0, 1.0, 4.0, 1.0, 0.0, 0.0, &min_tag, 1, min, FIELDS) == 0 && min_tag == 0x5000 && same(min[12], 0.0));
+    CHECK(havgrunel_quadratic_min_careful(0.0, 1.0, 4.0, 1.0, 0.0, 0.0, &tag, 1, s, FIELDS) == 0 && tag == 0x4000 && same(s[12], 1.0));
+    CHECK(havgrunel_quadratic_min_careful(0.0, 1.0, 4.0, 1.0, 3.0, 0.0, &tag, 1, s, FIELDS - 1) == HAVGRUNEL_BUFFER_TOO_SHORT && tag == 0x4000);
 
     /* by the safe rule: the same at 0.5 and at 3; flat at its average where the ratio is next to nothing; and an end at 0 is no matter of rounding */
-    CHECK(havgrunel_quadratic_min(0.0, 1.0, 4.0, 1.0, 0.5, 0.0, &min_tag, 1, min, 24) == 0);
-    CHECK(havgrunel_quadratic_min_safe(0.0, 1.0, 4.0, 1.0, 0.5, 0.0, &tag, 1, s, 24) == 0 && tag == min_tag && memcmp(s, min, sizeof s) == 0);
-    CHECK(havgrunel_quadratic_min_careful(0.0, 1.0, 4.0, 1.0, 3.0, 0.0, &min_tag, 1, min, 24) == 0);
-    CHECK(havgrunel_quadratic_min_safe(0.0, 1.0, 4.0, 1.0, 3.0, 0.0, &tag, 1, s, 24) == 0 && tag == min_tag && memcmp(s, min, sizeof s) == 0);
-    CHECK(havgrunel_quadratic_min_safe(0.0, 1.0, 4.0, 1.0, 1e-12, 0.0, &tag, 1, s, 24) == 0 && tag == 0x4000);
+    CHECK(havgrunel_quadratic_min(0.0, 1.0, 4.0, 1.0, 0.5, 0.0, &min_tag, 1, min, FIELDS) == 0);
+    CHECK(havgrunel_quadratic_min_safe(0.0, 1.0, 4.0, 1.0, 0.5, 0.0, &tag, 1, s, FIELDS) == 0 && tag == min_tag && memcmp(s, min, sizeof s) == 0);
+    CHECK(havgrunel_quadratic_min_careful(0.0, 1.0, 4.0, 1.0, 3.0, 0.0, &min_tag, 1, min, FIELDS) == 0);
+    CHECK(havgrunel_quadratic_min_safe(0.0, 1.0, 4.0, 1.0, 3.0, 0.0, &tag, 1, s, FIELDS) == 0 && tag == min_tag && memcmp(s, min, sizeof s) == 0);
+    CHECK(havgrunel_quadratic_min_safe(0.0, 1.0, 4.0, 1.0, 1e-12, 0.0, &tag, 1, s, FIELDS) == 0 && tag == 0x4000);
     CHECK(section_is(tag, s, 0.0, 1e-12, 0.0, 1e-12) && section_is(tag, s, 1.0, 1e-12, 1e-12, 1e-12));
-    CHECK(havgrunel_quadratic_min_safe(0.0, 1.0, 4.0, 1.0, 2e-12, 0.0, &tag, 1, s, 24) == 0 && tag == 0x5000 && same(value_of(tag, s, 0.5), 0.0));
-    CHECK(havgrunel_quadratic_min_safe(0.0, 1.0, 4.0, 1.0, -1.0, 0.0, &tag, 1, s, 24) == 0 && tag == 0x4000 && section_is(tag, s, 0.0, -1.0, 0.0, -1.0));
-    CHECK(havgrunel_quadratic_min_safe(0.0, 1.0, 4.0, -1.0, 0.5, 0.0, &tag, 1, s, 24) == 0 && tag == 0x4000 && same(value_of(tag, s, 0.0), 4.0));
-    CHECK(havgrunel_quadratic_min_safe(0.0, 1.0, 4.0, 1.0, 0.5, 0.0, &tag, 1, s, 23) == HAVGRUNEL_BUFFER_TOO_SHORT && tag == 0x4000);
+    CHECK(havgrunel_quadratic_min_safe(0.0, 1.0, 4.0, 1.0, 2e-12, 0.0, &tag, 1, s, FIELDS) == 0 && tag == 0x5000 && same(value_of(tag, s, 0.5), 0.0));
+    CHECK(havgrunel_quadratic_min_safe(0.0, 1.0, 4.0, 1.0, -1.0, 0.0, &tag, 1, s, FIELDS) == 0 && tag == 0x4000 && section_is(tag, s, 0.0, -1.0, 0.0, -1.0));
+    CHECK(havgrunel_quadratic_min_safe(0.0, 1.0, 4.0, -1.0, 0.5, 0.0, &tag, 1, s, FIELDS) == 0 && tag == 0x4000 && same(value_of(tag, s, 0.0), 4.0));
+    CHECK(havgrunel_quadratic_min_safe(0.0, 1.0, 4.0, 1.0, 0.5, 0.0, &tag, 1, s, FIELDS - 1) == HAVGRUNEL_BUFFER_TOO_SHORT && tag == 0x4000);
     const double beside = 29.825;
-    CHECK(havgrunel_quadratic_min_careful(0.0, 28.0, 0.0, beside, 0.62, 0.0, &tag, 1, s, 24) == 0 && tag == 0x4000 && value_of(tag, s, 9.0) < -9.0);
-    CHECK(havgrunel_quadratic_min_safe(0.0, 28.0, 0.0, beside, 0.62, 0.0, &tag, 1, s, 24) == 0 && tag == 0x5000 && same(value_of(tag, s, 9.0), 0.0));
+    CHECK(havgrunel_quadratic_min_careful(0.0, 28.0, 0.0, beside, 0.62, 0.0, &tag, 1, s, FIELDS) == 0 && tag == 0x4000 && value_of(tag, s, 9.0) < -9.0);
+    CHECK(havgrunel_quadratic_min_safe(0.0, 28.0, 0.0, beside, 0.62, 0.0, &tag, 1, s, FIELDS) == 0 && tag == 0x5000 && same(value_of(tag, s, 9.0), 0.0));
 
-    CHECK(havgrunel_convex_monotone4_min(0.0, 1.0, 1.0, 1.0, 0.25, 0.5, 0.0, &min_tag, 1, min, 24) == 0);
-    CHECK(havgrunel_convex_monotone4_min_safe(0.0, 1.0, 1.0, 1.0, 0.25, 0.5, 0.0, &tag, 1, s, 24) == 0 && tag == min_tag && memcmp(s, min, sizeof s) == 0);
-    CHECK(havgrunel_convex_monotone4_min(0.0, 1.0, 1.0, 1.0, 0.0, 0.5, 0.0, &tag, 1, s, 24) == 0 && tag == 0x0680 && isnan(value_of(tag, s, 0.0)));
-    CHECK(havgrunel_convex_monotone4_min_safe(0.0, 1.0, 1.0, 1.0, 0.0, 0.5, 0.0, &tag, 1, s, 24) == 0 && tag == 0x0600);
+    CHECK(havgrunel_convex_monotone4_min(0.0, 1.0, 1.0, 1.0, 0.25, 0.5, 0.0, &min_tag, 1, min, FIELDS) == 0);
+    CHECK(havgrunel_convex_monotone4_min_safe(0.0, 1.0, 1.0, 1.0, 0.25, 0.5, 0.0, &tag, 1, s, FIELDS) == 0 && tag == min_tag && memcmp(s, min, sizeof s) == 0);
+    CHECK(havgrunel_convex_monotone4_min(0.0, 1.0, 1.0, 1.0, 0.0, 0.5, 0.0, &tag, 1, s, FIELDS) == 0 && tag == 0x0680 && isnan(value_of(tag, s, 0.0)));
+    CHECK(havgrunel_convex_monotone4_min_safe(0.0, 1.0, 1.0, 1.0, 0.0, 0.5, 0.0, &tag, 1, s, FIELDS) == 0 && tag == 0x0600);
     CHECK(section_is(tag, s, 0.0, 0.0, 0.0, 0.0) && section_is(tag, s, 1.0, 0.0, 0.0, 0.0));
-    CHECK(havgrunel_convex_monotone4_min_safe(0.0, 1.0, 1.0, 1.0, 0.0, 0.5, 0.0, NULL, 0, s, 24) == HAVGRUNEL_BUFFER_TOO_SHORT);
+    CHECK(havgrunel_convex_monotone4_min_safe(0.0, 1.0, 1.0, 1.0, 0.0, 0.5, 0.0, NULL, 0, s, FIELDS) == HAVGRUNEL_BUFFER_TOO_SHORT);
 
     /* a combination from two records: a quarter of the one and the rest of the other */
     uint16_t other_tag = 0;
-    double other[HAVGRUNEL_SLOTS];
-    CHECK(havgrunel_quadratic(0.0, 1.0, 0.5, 2.0, 1.0, 0.0, &tag, 1, s, 24) == 0);
-    CHECK(havgrunel_convex_monotone2(0.0, 1.0, -1.0, 5.0, 2.0, 0.5, 0.0, &other_tag, 1, other, 24) == 0);
+    double other[FIELDS];
+    CHECK(havgrunel_quadratic(0.0, 1.0, 0.5, 2.0, 1.0, 0.0, &tag, 1, s, FIELDS) == 0);
+    CHECK(havgrunel_convex_monotone2(0.0, 1.0, -1.0, 5.0, 2.0, 0.5, 0.0, &other_tag, 1, other, FIELDS) == 0);
     const double first = value_of(tag, s, 0.75);
     const double second = value_of(other_tag, other, 0.75);
     s[0] = 0.25;
@@ -424,10 +546,10 @@ static void kinds(void)
 
     /* no room: nothing is written */
     const uint16_t tag_before = tag;
-    double before[HAVGRUNEL_SLOTS];
+    double before[FIELDS];
     memcpy(before, s, sizeof s);
-    CHECK(havgrunel_quadratic(9.0, 9.0, 9.0, 9.0, 9.0, 9.0, &tag, 1, s, 23) == HAVGRUNEL_BUFFER_TOO_SHORT);
-    CHECK(havgrunel_quadratic(9.0, 9.0, 9.0, 9.0, 9.0, 9.0, NULL, 0, s, 24) == HAVGRUNEL_BUFFER_TOO_SHORT);
+    CHECK(havgrunel_quadratic(9.0, 9.0, 9.0, 9.0, 9.0, 9.0, &tag, 1, s, FIELDS - 1) == HAVGRUNEL_BUFFER_TOO_SHORT);
+    CHECK(havgrunel_quadratic(9.0, 9.0, 9.0, 9.0, 9.0, 9.0, NULL, 0, s, FIELDS) == HAVGRUNEL_BUFFER_TOO_SHORT);
     CHECK(tag == tag_before && memcmp(before, s, sizeof s) == 0);
 }
 
@@ -458,16 +580,19 @@ static void growth(void)
     t.knots_count = t.averages_count = 4;
     CHECK(grow(&t, 2, 5, true, first.sections[0], true, &first, &second) == 0 && rest_untouched(&second, 4));
     double end[3];
-    CHECK(havgrunel_section(first.tags[0], first.slots, 24, 0.0, end, 3) == 0);
+    CHECK(havgrunel_section(first.tags[0], first.slots, FIELDS, 0.0, end, 3) == 0);
     fill(&whole);
     CHECK(build_in(&t, true, true, 1, end[2], NODES, TAGS, SLOTS, 2, 4, &whole) == 0);
     CHECK(memcmp(&second, &whole, sizeof whole) == 0);
     CHECK(memcmp(second.slots, first.slots, HAVGRUNEL_SLOTS * sizeof *first.slots) == 0);
+    /* prices at knots and totals are not among what is taken over */
+    spoil_knots(&first);
+    CHECK(grow(&t, 2, 5, true, first.sections[0], true, &first, &second) == 0 && memcmp(&second, &whole, sizeof whole) == 0);
 
     /* the last point: nothing is held any more */
     t.knots_count = t.averages_count = 5;
     CHECK(grow(&t, 2, 5, true, second.sections[0], true, &second, &first) == 0);
-    CHECK(havgrunel_section(second.tags[1], second.slots + HAVGRUNEL_SLOTS, 24, 0.0, end, 3) == 0);
+    CHECK(havgrunel_section(second.tags[1], second.slots + HAVGRUNEL_SLOTS, FIELDS, 0.0, end, 3) == 0);
     fill(&whole);
     CHECK(build_in(&t, false, true, 2, end[2], NODES, TAGS, SLOTS, 2, 4, &whole) == 0);
     CHECK(memcmp(&first, &whole, sizeof whole) == 0);
@@ -476,6 +601,11 @@ static void growth(void)
     CHECK(grow(&t, 2, 5, false, 4, true, &second, &first) == HAVGRUNEL_NO_PREVIOUS_CURVE && untouched(&first));
     CHECK(grow(&t, 2, 5, true, 0, true, &second, &first) == HAVGRUNEL_NO_PREVIOUS_CURVE && untouched(&first));
     CHECK(grow(&t, 2, 5, true, 4096, true, &second, &first) == HAVGRUNEL_RECORD_NOT_LEGAL && untouched(&first));
+    fill(&first);
+    CHECK(havgrunel_grow(knots, 5, averages, 5, 0.3, 0.7, true, HAVGRUNEL_SPLIT_ORIGINAL, 2, 5, true, 3, true, second.tags, TAGS, second.slots,
+              3 * (HAVGRUNEL_SLOTS - 1), first.nodes, NODES, first.tags, TAGS, first.slots, SLOTS, first.sections, 2, first.tail, 4)
+            == HAVGRUNEL_RECORD_NOT_LEGAL
+        && untouched(&first));
     second.tags[1] = 0x0001;
     CHECK(grow(&t, 2, 5, true, 3, true, &second, &first) == HAVGRUNEL_RECORD_NOT_LEGAL && untouched(&first));
     /* a seam that leaves no period, and a table of its own fault */
@@ -573,11 +703,11 @@ static void sheets(void)
     CHECK(sheet(&t, 0, 2, first, &c, answer) == HAVGRUNEL_MONOTONICITY_OUTSIDE);
     CHECK(sheet(&three, 0, 1, first, &c, answer) == HAVGRUNEL_TOO_FEW_POINTS);
     /* room is what the buffers have from the place on, and an answer without room comes last */
-    CHECK(sheet_in(&three, 1, 2, second, 2, 2, 48, 4, &c, answer) == HAVGRUNEL_BUFFER_TOO_SHORT);
-    CHECK(sheet_in(&three, 1, 2, second, 3, 1, 48, 4, &c, answer) == HAVGRUNEL_BUFFER_TOO_SHORT);
-    CHECK(sheet_in(&three, 1, 2, second, 3, 2, 47, 4, &c, answer) == HAVGRUNEL_BUFFER_TOO_SHORT);
-    CHECK(sheet_in(&three, 1, 2, second, 3, 2, 48, 3, &c, answer) == HAVGRUNEL_BUFFER_TOO_SHORT);
-    CHECK(sheet_in(&t, 1, 2, second, 3, 2, 48, 3, &c, answer) == HAVGRUNEL_MONOTONICITY_OUTSIDE);
+    CHECK(sheet_in(&three, 1, 2, second, 2, 2, TWO, 4, &c, answer) == HAVGRUNEL_BUFFER_TOO_SHORT);
+    CHECK(sheet_in(&three, 1, 2, second, 3, 1, TWO, 4, &c, answer) == HAVGRUNEL_BUFFER_TOO_SHORT);
+    CHECK(sheet_in(&three, 1, 2, second, 3, 2, TWO - 1, 4, &c, answer) == HAVGRUNEL_BUFFER_TOO_SHORT);
+    CHECK(sheet_in(&three, 1, 2, second, 3, 2, TWO, 3, &c, answer) == HAVGRUNEL_BUFFER_TOO_SHORT);
+    CHECK(sheet_in(&t, 1, 2, second, 3, 2, TWO, 3, &c, answer) == HAVGRUNEL_MONOTONICITY_OUTSIDE);
     struct handed far = second;
     far.place = SIZE_MAX;
     CHECK(sheet(&three, 1, 2, far, &c, answer) == HAVGRUNEL_BUFFER_TOO_SHORT);
@@ -608,8 +738,8 @@ static double held(const struct curve *c, size_t number)
     const double *const slots = c->slots + HAVGRUNEL_SLOTS * number;
     double a[3] = {-1.0, -1.0, -1.0};
     double b[3] = {-1.0, -1.0, -1.0};
-    CHECK(havgrunel_section(c->tags[number], slots, HAVGRUNEL_SLOTS, (double)number, a, 3) == 0);
-    CHECK(havgrunel_section(c->tags[number], slots, HAVGRUNEL_SLOTS, (double)number + 1.0, b, 3) == 0);
+    CHECK(havgrunel_section(c->tags[number], slots, FIELDS, (double)number, a, 3) == 0);
+    CHECK(havgrunel_section(c->tags[number], slots, FIELDS, (double)number + 1.0, b, 3) == 0);
     return b[1] - a[1];
 }
 
@@ -696,8 +826,8 @@ static void cheap_first_month(void)
     for (size_t i = 0; i < 3; i++) {
         double a[3];
         double b[3];
-        CHECK(havgrunel_section(safe.tags[i], safe.slots + HAVGRUNEL_SLOTS * i, HAVGRUNEL_SLOTS, knots[i], a, 3) == 0);
-        CHECK(havgrunel_section(safe.tags[i], safe.slots + HAVGRUNEL_SLOTS * i, HAVGRUNEL_SLOTS, knots[i + 1], b, 3) == 0);
+        CHECK(havgrunel_section(safe.tags[i], safe.slots + HAVGRUNEL_SLOTS * i, FIELDS, knots[i], a, 3) == 0);
+        CHECK(havgrunel_section(safe.tags[i], safe.slots + HAVGRUNEL_SLOTS * i, FIELDS, knots[i + 1], b, 3) == 0);
         CHECK(fabs((b[1] - a[1]) / (knots[i + 1] - knots[i]) - averages[i + 1]) < 1e-11 * 59.03);
     }
 
@@ -819,6 +949,9 @@ int main(void)
     refused_tables();
     refused_queries();
     records();
+    knot_prices();
+    a_slot_short_of_each();
+    fields_alone();
     kinds();
     growth();
     sheets();
