@@ -12,7 +12,7 @@ pub struct Buffers<'a> {
     pub nodes: &'a mut [f64],
     /// A tag for each section.
     pub tags: &'a mut [u16],
-    /// The numbers of each section, in a row.
+    /// The numbers of each section's record, in a row.
     pub slots: &'a mut [f64],
 }
 

@@ -23,7 +23,7 @@
 //!
 //! [`ConvexMonotone`] and [`ConvexMonotoneInterpolation`] have the names and methods of the module that this library takes the place
 //! of, and so have the traits. [`lent`] has the same calls over the caller's own buffers, with nothing allocated. [`Record`]
-//! is one section of a curve by itself.
+//! is a section as a curve stores it, with its prices at both knots and the total after it, and [`Section`] one by itself.
 #![deny(unsafe_code)]
 #![warn(missing_docs)]
 
@@ -36,13 +36,15 @@ pub mod lent;
 mod method;
 mod record;
 mod refusal;
+mod section;
 mod traits;
 
 pub use curve::ConvexMonotoneInterpolation;
 pub use lent::Tail;
 pub use method::{ConvexMonotone, Split};
-pub use record::{Answers, Record};
+pub use record::Record;
 pub use refusal::Refusal;
+pub use section::{Answers, Section};
 pub use traits::{Interpolation, Interpolator, LocalInterpolator};
 
 /// The numbers of a curve.
@@ -51,8 +53,11 @@ pub type Real = f64;
 /// The most points that a curve can have.
 pub const MOST_POINTS: usize = 4096;
 
-/// The numbers of a section's record.
-pub const SLOTS: usize = 24;
+/// The numbers of a section itself: the first ones of its record.
+pub const FIELDS: usize = 24;
+
+/// The numbers of a section's record in a curve: its own, its prices at the two knots of its period and the running total after it.
+pub const SLOTS: usize = FIELDS + 3;
 
 /// The node at an inner knot `here`, from the knots before and after it, the average of the period that ends at it and the next
 /// one: what the sheets on both sides of a cut are given.

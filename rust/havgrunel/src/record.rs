@@ -1,118 +1,77 @@
-//! One section by itself.
+//! A section as a curve stores it.
 
-#[cfg(doc)]
-use crate::Split;
-use crate::{Refusal, SLOTS, ffi};
+use crate::{Answers, FIELDS, Refusal, SLOTS, Section};
 
-/// A section as a curve stores it: 16 bits that say which kinds it is made of, and 24 numbers.
+/// Where the numbers of its period stand in a record, behind the section's own.
+const LEFT_PRICE: usize = FIELDS;
+const RIGHT_PRICE: usize = FIELDS + 1;
+const TOTAL: usize = FIELDS + 2;
+
+/// A section as a curve stores it: 16 bits that say which kinds it is made of, and [`SLOTS`] numbers. The first [`FIELDS`] are those of the
+/// section itself. Behind them stand three of its period: its prices at the left knot and at the right one, and the running total after it.
+///
+/// The price to the left of an inner knot is the right price of the section that ends there, and the price to its right is the left price of
+/// the next one.
+///
+/// ```
+/// use havgrunel::ConvexMonotone;
+///
+/// let curve = ConvexMonotone::new(0.0, 1.0, false).interpolate(&[0.0, 1.0, 2.0], &[0.0, 1.0, 3.0])?;
+/// let first = curve.record(0)?;
+/// assert_eq!((first.left_price(), first.right_price(), first.total()), (0.5, 2.0, 1.0));
+/// # Ok::<(), havgrunel::Refusal>(())
+/// ```
 #[derive(Clone, Copy, Debug, PartialEq)]
 pub struct Record {
     /// Its kinds and splits.
     pub tag: u16,
-    /// Its numbers; those that its kinds don't use are 0.
+    /// Its numbers; those of the section itself that its kinds don't use are 0.
     pub slots: [f64; SLOTS],
 }
 
-/// What a section answers at a place.
-#[derive(Clone, Copy, Debug, PartialEq)]
-pub struct Answers {
-    /// The price there.
-    pub value: f64,
-    /// The total up to there.
-    pub primitive: f64,
-    /// The price that the section ends on, wherever it is asked.
-    pub f_next: f64,
-}
-
-/// The bits of a tag that tell the quadratic part; the rest tell the other.
-const QUADRATIC: u16 = 0xf000;
-
-macro_rules! kinds {
-    ($($(#[$doc:meta])* $name:ident($($argument:ident),*);)*) => {
-        $($(#[$doc])*
-        #[allow(clippy::too_many_arguments)]
-        pub fn $name($($argument: f64),*) -> Record {
-            let mut record = Record { tag: 0, slots: [0.0; SLOTS] };
-            let number = ffi::$name($($argument,)* &mut record.tag, &mut record.slots);
-            assert_eq!(number, 0, "a record has room for its numbers");
-            record
-        })*
-    };
-}
-
 impl Record {
-    kinds! {
-        /// A constant section.
-        everywhere_constant(value, prev_primitive, x_prev);
-        /// A straight line from one node to the next.
-        constant_grad(f_prev, prev_primitive, x_prev, x_next, f_next);
-        /// Level, then a parabola.
-        convex_monotone2(x_prev, x_next, g_prev, g_next, f_average, eta2, prev_primitive);
-        /// A parabola, then level.
-        convex_monotone3(x_prev, x_next, g_prev, g_next, f_average, eta3, prev_primitive);
-        /// Two parabolas that meet.
-        convex_monotone4(x_prev, x_next, g_prev, g_next, f_average, eta4, prev_primitive);
-        /// The same, split where the two would meet at zero or below.
-        convex_monotone4_min(x_prev, x_next, g_prev, g_next, f_average, eta4, prev_primitive);
-        /// The same by the rule of [`Split::Safe`]: level at the average where the arms would be squeezed to next to nothing.
-        convex_monotone4_min_safe(x_prev, x_next, g_prev, g_next, f_average, eta4, prev_primitive);
-        /// The parabola through two nodes with the average.
-        quadratic(x_prev, x_next, f_prev, f_next, f_average, prev_primitive);
-        /// The same, split where both tests of the method's rule pass, which is so for some that stay above zero, too.
-        quadratic_min(x_prev, x_next, f_prev, f_next, f_average, prev_primitive);
-        /// The same by the rule of [`Split::Careful`]: split only where the rule above does and the section is then no longer
-        /// than its period.
-        quadratic_min_careful(x_prev, x_next, f_prev, f_next, f_average, prev_primitive);
-        /// The same by the rule of [`Split::Safe`]: split wherever it would fall below zero between its nodes, and level at the
-        /// average where the arms would be squeezed to next to nothing.
-        quadratic_min_safe(x_prev, x_next, f_prev, f_next, f_average, prev_primitive);
+    /// The section by itself.
+    pub fn section(&self) -> Section {
+        Section {
+            tag: self.tag,
+            fields: std::array::from_fn(|place| self.slots[place]),
+        }
     }
 
-    /// So much of a quadratic section, and the rest of 1 of a convex monotone one. Refused by 15 where either is no such
-    /// section by itself.
-    pub fn combination(
-        quadratic: &Record,
-        other: &Record,
-        quadraticity: f64,
-    ) -> Result<Record, Refusal> {
-        quadratic.answers(0.0)?;
-        other.answers(0.0)?;
-        if quadratic.tag & !QUADRATIC != 0 || other.tag & QUADRATIC != 0 {
-            return Err(Refusal::RecordNotLegal);
-        }
-        let mut both = *other;
-        both.tag |= quadratic.tag;
-        both.slots[0] = quadraticity;
-        both.slots[1..13].copy_from_slice(&quadratic.slots[1..13]);
-        // The constant kinds don't combine, which the library knows.
-        both.answers(0.0)?;
-        Ok(both)
+    /// The price at the left knot of its period, as the curve stores it: what the section's own formula gives there, which may be infinite or
+    /// a NaN.
+    pub fn left_price(&self) -> f64 {
+        self.slots[LEFT_PRICE]
+    }
+
+    /// The price at the right knot of its period, in the same way.
+    pub fn right_price(&self) -> f64 {
+        self.slots[RIGHT_PRICE]
+    }
+
+    /// The running total after its period, as the curve stores it: the sum from the left of each average times the length of its period, from
+    /// which the next section starts.
+    pub fn total(&self) -> f64 {
+        self.slots[TOTAL]
     }
 
     /// All that the section answers at `x`, wherever that is; refused by 15 where the tag is none that there is.
     pub fn answers(&self, x: f64) -> Result<Answers, Refusal> {
-        let mut told = [0.0; 3];
-        Refusal::told(ffi::section(self.tag, &self.slots, x, &mut told))?;
-        let [value, primitive, f_next] = told;
-        Ok(Answers {
-            value,
-            primitive,
-            f_next,
-        })
+        self.section().answers(x)
     }
 
     /// The price at `x`.
     pub fn value(&self, x: f64) -> Result<f64, Refusal> {
-        Ok(self.answers(x)?.value)
+        self.section().value(x)
     }
 
     /// The total up to `x`.
     pub fn primitive(&self, x: f64) -> Result<f64, Refusal> {
-        Ok(self.answers(x)?.primitive)
+        self.section().primitive(x)
     }
 
     /// The price that the section ends on.
     pub fn f_next(&self) -> Result<f64, Refusal> {
-        Ok(self.answers(0.0)?.f_next)
+        self.section().f_next()
     }
 }

@@ -1,7 +1,7 @@
 //! What a call leaves in lent buffers: its answers from the start, and every other entry as it was.
 
-use havgrunel::ConvexMonotone;
 use havgrunel::lent::{self, Buffers, Curve, Seam};
+use havgrunel::{ConvexMonotone, SLOTS};
 
 const OLD: f64 = -123.25;
 const OLD_TAG: u16 = 0xabcd;
@@ -10,7 +10,7 @@ const OLD_TAG: u16 = 0xabcd;
 struct Held {
     nodes: [f64; 6],
     tags: [u16; 6],
-    slots: [f64; 100],
+    slots: [f64; 4 * SLOTS],
 }
 
 impl Held {
@@ -18,7 +18,7 @@ impl Held {
         Held {
             nodes: [OLD; 6],
             tags: [OLD_TAG; 6],
-            slots: [OLD; 100],
+            slots: [OLD; 4 * SLOTS],
         }
     }
 
@@ -40,14 +40,14 @@ fn entries_beyond_a_curve_stay() {
     assert_eq!(curve.sections, 3);
     assert!(held.nodes[4..].iter().all(|&node| node == OLD));
     assert!(held.tags[3..].iter().all(|&tag| tag == OLD_TAG));
-    assert!(held.slots[72..].iter().all(|&slot| slot == OLD));
+    assert!(held.slots[3 * SLOTS..].iter().all(|&slot| slot == OLD));
 
     // The curve that owns its buffers is the same one.
     let owned = method.interpolate(&x, &y).expect("builds");
     assert_eq!(owned.nodes(), &held.nodes[..4]);
     for (number, record) in owned.records().enumerate() {
         assert_eq!(record.tag, held.tags[number]);
-        assert_eq!(record.slots, held.slots[24 * number..][..24]);
+        assert_eq!(record.slots, held.slots[SLOTS * number..][..SLOTS]);
         assert_eq!(lent::record(4, &held.slots, number), Ok(record.slots));
     }
     assert_eq!(owned.tail(), curve.tail);

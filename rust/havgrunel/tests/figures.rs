@@ -1,7 +1,7 @@
 //! The figures of the requirements, through the safe crate.
 
 use havgrunel::lent::{self, Buffers, Seam};
-use havgrunel::{ConvexMonotone, Record, Refusal, Split, Tail, sqrt};
+use havgrunel::{ConvexMonotone, Refusal, SLOTS, Section, Split, Tail, sqrt};
 
 const KNOTS: [f64; 3] = [0.0, 1.0, 2.0];
 const AVERAGES: [f64; 3] = [0.0, 1.0, 3.0];
@@ -55,16 +55,16 @@ fn p3_a_knot_belongs_to_the_section_after_it() {
 
 #[test]
 fn p5_to_p8_single_sections() {
-    let low = Record::quadratic_min(0.0, 1.0, 4.0, 1.0, 0.5, 0.0);
+    let low = Section::quadratic_min(0.0, 1.0, 4.0, 1.0, 0.5, 0.0);
     assert_eq!(low.value(0.25), Ok(0.25));
     assert_eq!(low.value(0.5), Ok(0.0));
     assert_eq!(low.value(1.0), Ok(1.0));
-    let high = Record::quadratic_min(0.0, 1.0, 4.0, 1.0, 3.0, 0.0);
-    assert_eq!((high.tag, high.slots[12]), (0x5000, 3.0));
+    let high = Section::quadratic_min(0.0, 1.0, 4.0, 1.0, 3.0, 0.0);
+    assert_eq!((high.tag, high.fields[12]), (0x5000, 3.0));
     assert_eq!(high.value(0.75), Ok(1.5625));
-    let second = Record::convex_monotone2(0.0, 1.0, -1.0, 5.0, 2.0, 0.5, 0.0);
+    let second = Section::convex_monotone2(0.0, 1.0, -1.0, 5.0, 2.0, 0.5, 0.0);
     assert_eq!(second.value(0.75), Ok(2.5));
-    let fourth = Record::convex_monotone4(0.0, 1.0, 1.0, 0.0, 1.0, 0.0, 0.0);
+    let fourth = Section::convex_monotone4(0.0, 1.0, 1.0, 0.0, 1.0, 0.0, 0.0);
     assert!(fourth.value(0.0).expect("legal").is_nan());
 }
 
@@ -79,7 +79,7 @@ fn p9_roots() {
 
 #[test]
 fn p10_a_seam_leaves_a_period_to_build() {
-    let (mut nodes, mut tags, mut slots) = ([0.0; 3], [0; 2], [0.0; 48]);
+    let (mut nodes, mut tags, mut slots) = ([0.0; 3], [0; 2], [0.0; 2 * SLOTS]);
     let mut with = |count| {
         let buffers = Buffers {
             nodes: &mut nodes,

@@ -1,7 +1,7 @@
 //! A table that grows by a point at a time, with no original at hand: each curve is the one that a seam given by hand makes.
 
 use havgrunel::lent::{self, Buffers, Seam};
-use havgrunel::{ConvexMonotone, ConvexMonotoneInterpolation};
+use havgrunel::{ConvexMonotone, ConvexMonotoneInterpolation, SLOTS};
 
 const KNOTS: [f64; 6] = [0.0, 1.0, 2.5, 3.0, 5.0, 5.5];
 const AVERAGES: [f64; 6] = [0.0, 1.0, 3.0, 2.0, 2.5, 0.5];
@@ -9,7 +9,7 @@ const AVERAGES: [f64; 6] = [0.0, 1.0, 3.0, 2.0, 2.5, 0.5];
 /// The same table built by itself, held or not, with this seam.
 fn by_hand(points: usize, hold: bool, seam: Option<Seam>) -> (Vec<f64>, Vec<u16>, Vec<f64>) {
     let (mut nodes, mut tags) = (vec![0.0; points], vec![0; points - 1]);
-    let mut slots = vec![0.0; 24 * (points - 1)];
+    let mut slots = vec![0.0; SLOTS * (points - 1)];
     let buffers = Buffers {
         nodes: &mut nodes,
         tags: &mut tags,

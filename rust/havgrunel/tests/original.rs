@@ -4,7 +4,9 @@ mod drawn;
 
 use drawn::{price, table};
 use havgrunel::lent::{self, Buffers};
-use havgrunel::{ConvexMonotone, ConvexMonotoneInterpolation, Record, Refusal, sqrt};
+use havgrunel::{
+    ConvexMonotone, ConvexMonotoneInterpolation, Record, Refusal, SLOTS, Section, sqrt,
+};
 use oracle::answers::rng::Rng;
 use oracle::words::bits;
 use oracle::{Convex, Quadratic, Recipe, Settings};
@@ -49,15 +51,28 @@ fn judged(answer: Result<f64, oracle::Refusal>) -> Result<u64, u8> {
     answer.map(bits).map_err(oracle::Refusal::number)
 }
 
-fn same_record(mine: &Record, other: &oracle::Record) -> bool {
-    mine.tag == other.tag && mine.slots.map(bits) == other.bits()
+fn same_section(mine: &Section, other: &oracle::Record) -> bool {
+    mine.tag == other.tag && mine.fields.map(bits) == other.bits()
 }
 
-/// All that two curves hold and answer.
-fn agree(rng: &mut Rng, x: &[f64], mine: ConvexMonotoneInterpolation, other: oracle::Curve) {
+/// A section's own numbers, its prices at its two knots and the total after it.
+fn same_record(mine: &Record, other: &oracle::Record, knots: [f64; 3]) -> bool {
+    let told = [mine.left_price(), mine.right_price(), mine.total()];
+    same_section(&mine.section(), other) && told.map(bits) == knots.map(bits)
+}
+
+/// All that two curves of a table hold and answer.
+fn agree(
+    rng: &mut Rng,
+    settings: &Settings,
+    (x, y): (&[f64], &[f64]),
+    mine: ConvexMonotoneInterpolation,
+    other: oracle::Curve,
+) {
     assert_eq!(mine.sections(), other.sections());
+    let knots = oracle::knots(settings, x, y, &other);
     for (place, record) in mine.records().enumerate() {
-        assert!(same_record(&record, &other.record(place)));
+        assert!(same_record(&record, &other.record(place), knots[place]));
         let f_next = record.f_next().map(bits);
         assert_eq!(f_next, Ok(bits(other.f_next(place))));
     }
@@ -94,7 +109,7 @@ fn random_tables_build_the_same_curve() {
                 .map(|&node| bits(node))
                 .eq(nodes.map(|&node| bits(node)))
         );
-        agree(&mut rng, &x, mine, other);
+        agree(&mut rng, &settings, (&x, &y), mine, other);
     }
 }
 
@@ -124,7 +139,8 @@ fn random_tables_grow_the_same_curve() {
             };
             agree(
                 &mut rng,
-                x,
+                &settings,
+                (x, y),
                 next.clone(),
                 oracle::grow(&settings, x, y, localisation, other.as_ref(), end).expect("grew"),
             );
@@ -150,7 +166,7 @@ fn held_and_seamed_tables_build_the_same_curve() {
         let (mut nodes, mut tags, mut slots) = (
             vec![0.0; x.len()],
             vec![0; x.len()],
-            vec![0.0; 24 * x.len()],
+            vec![0.0; SLOTS * x.len()],
         );
         let buffers = Buffers {
             nodes: &mut nodes,
@@ -172,10 +188,11 @@ fn held_and_seamed_tables_build_the_same_curve() {
             }
         };
         assert_eq!((mine.sections, mine.held), (other.sections(), other.held()));
+        let knots = oracle::knots(&settings, &x, &y, &other);
         for (place, &tag) in tags.iter().enumerate().take(mine.sections) {
             let slots = lent::record(x.len(), &slots, place).expect("there");
             let record = Record { tag, slots };
-            assert!(same_record(&record, &other.record(place)));
+            assert!(same_record(&record, &other.record(place), knots[place]));
         }
         for q in queries(&mut rng, &x) {
             let value = lent::value(&x, &mine, &tags, &slots, q);
@@ -186,32 +203,32 @@ fn held_and_seamed_tables_build_the_same_curve() {
     }
 }
 
-fn quadratic(part: &Quadratic) -> Record {
+fn quadratic(part: &Quadratic) -> Section {
     let &[a, b, c, d, e, f] = part.args();
     match part {
-        Quadratic::Plain(_) => Record::quadratic(a, b, c, d, e, f),
-        Quadratic::Min(_) => Record::quadratic_min(a, b, c, d, e, f),
+        Quadratic::Plain(_) => Section::quadratic(a, b, c, d, e, f),
+        Quadratic::Min(_) => Section::quadratic_min(a, b, c, d, e, f),
     }
 }
 
-fn convex(part: &Convex) -> Record {
+fn convex(part: &Convex) -> Section {
     let &[a, b, c, d, e, f, g] = part.args();
     match part {
-        Convex::Two(_) => Record::convex_monotone2(a, b, c, d, e, f, g),
-        Convex::Three(_) => Record::convex_monotone3(a, b, c, d, e, f, g),
-        Convex::Four(_) => Record::convex_monotone4(a, b, c, d, e, f, g),
-        Convex::FourMin(_) => Record::convex_monotone4_min(a, b, c, d, e, f, g),
+        Convex::Two(_) => Section::convex_monotone2(a, b, c, d, e, f, g),
+        Convex::Three(_) => Section::convex_monotone3(a, b, c, d, e, f, g),
+        Convex::Four(_) => Section::convex_monotone4(a, b, c, d, e, f, g),
+        Convex::FourMin(_) => Section::convex_monotone4_min(a, b, c, d, e, f, g),
     }
 }
 
-fn record(recipe: &Recipe) -> Record {
+fn section(recipe: &Recipe) -> Section {
     match recipe {
-        &Recipe::Constant([a, b, c]) => Record::everywhere_constant(a, b, c),
-        &Recipe::Gradient([a, b, c, d, e]) => Record::constant_grad(a, b, c, d, e),
+        &Recipe::Constant([a, b, c]) => Section::everywhere_constant(a, b, c),
+        &Recipe::Gradient([a, b, c, d, e]) => Section::constant_grad(a, b, c, d, e),
         Recipe::Convex(part) => convex(part),
         Recipe::Quadratic(part) => quadratic(part),
         Recipe::Combination(weight, one, two) => {
-            Record::combination(&quadratic(one), &convex(two), *weight).expect("two parts")
+            Section::combination(&quadratic(one), &convex(two), *weight).expect("two parts")
         }
     }
 }
@@ -237,8 +254,8 @@ fn single_sections_are_the_same() {
             words.extend((0..count).map(|_| word()));
         }
         let recipe = Recipe::read(&words).expect("a recipe");
-        let (mine, other) = (record(&recipe), oracle::section(&recipe));
-        assert!(same_record(&mine, &other.record()));
+        let (mine, other) = (section(&recipe), oracle::section(&recipe));
+        assert!(same_section(&mine, &other.record()));
         for _ in 0..6 {
             let x = price(&mut rng, style);
             let answers = mine.answers(x).expect("legal");

@@ -3,7 +3,7 @@
 use std::error::Error;
 
 use havgrunel::lent::{self, Buffers, Curve, Previous};
-use havgrunel::{ConvexMonotone, MOST_POINTS, Record, Refusal, SLOTS};
+use havgrunel::{ConvexMonotone, FIELDS, MOST_POINTS, Record, Refusal, SLOTS, Section};
 
 const NAN: f64 = f64::NAN;
 
@@ -77,11 +77,13 @@ fn growth_is_refused() {
 
 #[test]
 fn records_that_are_not_legal_are_refused() {
-    let slots = [0.0; SLOTS];
+    let (slots, fields) = ([0.0; SLOTS], [0.0; FIELDS]);
     let mut legal = oracle::legal_tags();
     for tag in 0..=u16::MAX {
         let answer = Record { tag, slots }.answers(0.0);
         assert_eq!(answer.is_ok(), legal.contains(&tag), "tag {tag:04x}");
+        let alone = Section { tag, fields }.answers(0.0);
+        assert_eq!(alone.err(), answer.err());
         if let Err(refusal) = answer {
             assert_eq!(refusal, Refusal::RecordNotLegal);
         }
@@ -89,28 +91,31 @@ fn records_that_are_not_legal_are_refused() {
     legal.dedup();
     assert_eq!(legal.len(), 25);
 
-    let quadratic = Record::quadratic(0.0, 1.0, 0.5, 2.0, 1.0, 0.0);
-    let constant = Record::everywhere_constant(2.0, 0.0, 0.0);
-    let convex = Record::convex_monotone2(0.0, 1.0, -1.0, 5.0, 2.0, 0.5, 0.0);
-    assert!(Record::combination(&quadratic, &convex, 0.25).is_ok());
+    let quadratic = Section::quadratic(0.0, 1.0, 0.5, 2.0, 1.0, 0.0);
+    let constant = Section::everywhere_constant(2.0, 0.0, 0.0);
+    let convex = Section::convex_monotone2(0.0, 1.0, -1.0, 5.0, 2.0, 0.5, 0.0);
+    assert!(Section::combination(&quadratic, &convex, 0.25).is_ok());
     for (one, two) in [
         (&convex, &quadratic),
         (&quadratic, &quadratic),
         (&quadratic, &constant),
-        (&Record { tag: 0, slots }, &convex),
-        (&quadratic, &Record { tag: 0, slots }),
+        (&Section { tag: 0, fields }, &convex),
+        (&quadratic, &Section { tag: 0, fields }),
     ] {
-        let both = Record::combination(one, two, 0.25);
+        let both = Section::combination(one, two, 0.25);
         assert_eq!(both, Err(Refusal::RecordNotLegal));
     }
 }
+
+/// The slots of three points.
+const ROOM: usize = 2 * SLOTS;
 
 /// 11 and 15 of buffers that the caller owns.
 #[test]
 fn lent_buffers_are_refused() {
     let (x, y) = ([0.0, 1.0, 2.0], [0.0, 1.0, 3.0]);
     let method = ConvexMonotone::default();
-    let (mut nodes, mut tags, mut slots) = ([0.0; 3], [0; 2], [0.0; 48]);
+    let (mut nodes, mut tags, mut slots) = ([0.0; 3], [0; 2], [0.0; ROOM]);
     let mut lend = |n: usize, t: usize, s: usize| {
         let buffers = Buffers {
             nodes: &mut nodes[..n],
@@ -119,30 +124,31 @@ fn lent_buffers_are_refused() {
         };
         lent::build(&x, &y, method, false, None, buffers)
     };
-    assert_eq!(lend(2, 2, 48), Err(Refusal::BufferTooShort));
-    assert_eq!(lend(3, 1, 48), Err(Refusal::BufferTooShort));
-    assert_eq!(lend(3, 2, 47), Err(Refusal::BufferTooShort));
+    assert_eq!(lend(2, 2, ROOM), Err(Refusal::BufferTooShort));
+    assert_eq!(lend(3, 1, ROOM), Err(Refusal::BufferTooShort));
+    assert_eq!(lend(3, 2, ROOM - 1), Err(Refusal::BufferTooShort));
+    assert_eq!(lend(3, 2, 2 * (SLOTS - 1)), Err(Refusal::BufferTooShort));
     assert_eq!(lend(0, 0, 0), Err(Refusal::BufferTooShort));
-    let curve: Curve = lend(3, 2, 48).expect("builds");
+    let curve: Curve = lend(3, 2, ROOM).expect("builds");
 
     let ask = |tags: &[u16], slots: &[f64]| lent::value(&x, &curve, tags, slots, 0.5);
     assert!(ask(&tags, &slots).is_ok());
     assert_eq!(ask(&tags[..1], &slots), Err(Refusal::BufferTooShort));
-    assert_eq!(ask(&tags, &slots[..47]), Err(Refusal::BufferTooShort));
+    for few in [ROOM - 1, 2 * (SLOTS - 1)] {
+        let few = &slots[..few];
+        assert_eq!(ask(&tags, few), Err(Refusal::BufferTooShort));
+        assert_eq!(lent::record(3, few, 0), Err(Refusal::BufferTooShort));
+    }
     assert_eq!(ask(&[0xffff, 0], &slots), Err(Refusal::RecordNotLegal));
-    assert_eq!(
-        lent::record(3, &slots[..47], 0),
-        Err(Refusal::BufferTooShort)
-    );
     assert_eq!(lent::record(3, &slots, 2), Err(Refusal::RecordNotLegal));
 
-    let (mut nodes, mut next_tags, mut next_slots) = ([0.0; 3], [0; 2], [0.0; 48]);
-    let mut grow = |sections, tags: &[u16]| {
+    let (mut nodes, mut next_tags, mut next_slots) = ([0.0; 3], [0; 2], [0.0; ROOM]);
+    let mut grow = |sections, tags: &[u16], slots: &[f64]| {
         let previous = Previous {
             sections,
             held: true,
             tags,
-            slots: &slots,
+            slots,
         };
         let buffers = Buffers {
             nodes: &mut nodes,
@@ -151,10 +157,13 @@ fn lent_buffers_are_refused() {
         };
         lent::grow(&x, &y, method, 1, Some(previous), 9, buffers)
     };
-    assert_eq!(grow(0, &tags), Err(Refusal::NoPreviousCurve));
-    assert_eq!(grow(3, &tags), Err(Refusal::RecordNotLegal));
-    assert_eq!(grow(2, &[0x0001, 0]), Err(Refusal::RecordNotLegal));
-    assert!(grow(2, &tags).is_ok());
+    assert_eq!(grow(0, &tags, &slots), Err(Refusal::NoPreviousCurve));
+    assert_eq!(grow(3, &tags, &slots), Err(Refusal::RecordNotLegal));
+    let few = &slots[..2 * (SLOTS - 1)];
+    assert_eq!(grow(2, &tags, few), Err(Refusal::RecordNotLegal));
+    let no_kind = [0x0001, 0];
+    assert_eq!(grow(2, &no_kind, &slots), Err(Refusal::RecordNotLegal));
+    assert!(grow(2, &tags, &slots).is_ok());
 }
 
 #[test]

@@ -4,7 +4,7 @@ mod drawn;
 
 use drawn::table;
 use havgrunel::lent::{self, Buffers, Seam, Sheet};
-use havgrunel::{ConvexMonotone, ConvexMonotoneInterpolation, Record, Refusal, SLOTS, Split};
+use havgrunel::{ConvexMonotone, ConvexMonotoneInterpolation, Refusal, SLOTS, Section, Split};
 use oracle::answers::rng::Rng;
 use oracle::words::bits;
 
@@ -148,16 +148,19 @@ fn next_to_nothing_beside_its_neighbours_is_level() {
 #[test]
 fn single_sections_by_the_safe_rule() {
     // From 4 to 1 the average 1 touches zero.
-    let at = |average: f64| Record::quadratic_min_safe(0.0, 1.0, 4.0, 1.0, average, 0.0);
+    let at = |average: f64| Section::quadratic_min_safe(0.0, 1.0, 4.0, 1.0, average, 0.0);
     assert_eq!((at(0.5).tag, at(3.0).tag), (0x5000, 0x4000));
-    assert_eq!(at(0.5), Record::quadratic_min(0.0, 1.0, 4.0, 1.0, 0.5, 0.0));
+    assert_eq!(
+        at(0.5),
+        Section::quadratic_min(0.0, 1.0, 4.0, 1.0, 0.5, 0.0)
+    );
     let level = at(1.0e-13);
     assert_eq!((level.tag, level.value(0.25)), (0x4000, Ok(1.0e-13)));
     assert_eq!(level.f_next(), Ok(1.0e-13));
 
     let at = |average: f64| {
         let rise = 3.0 - average;
-        Record::convex_monotone4_min_safe(0.0, 1.0, rise, rise, average, 0.5, 0.0)
+        Section::convex_monotone4_min_safe(0.0, 1.0, rise, rise, average, 0.5, 0.0)
     };
     assert_eq!((at(0.5).tag, at(2.0).tag), (0x0680, 0x0600));
     let level = at(1.0e-13);

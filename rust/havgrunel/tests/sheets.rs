@@ -187,7 +187,7 @@ fn the_worked_table_in_two_sheets() {
     assert_eq!(end, Ok(SheetEnd { total, tail }));
     assert_eq!(held.held(), whole.held());
     // What was put together answers as a curve does.
-    let answer = lent::value(&x, &curve, &held.tags[..2], &held.slots[..48], 1.5);
+    let answer = lent::value(&x, &curve, &held.tags[..2], &held.slots[..2 * SLOTS], 1.5);
     assert_eq!(answer, Ok(3.125));
 }
 
@@ -218,7 +218,7 @@ fn a_sheet_is_refused_in_order_and_writes_nothing() {
     assert_eq!(refusal(0.5, &[0.0, 0.0], &[f64::NAN, 0.0], given), 6);
     assert_eq!(refusal(0.5, &[0.0, 0.0], &y[..2], given), 7);
     // From place 2 on there is room for one period less.
-    for place in [2, 3, 4, 5, usize::MAX / 24, usize::MAX / 8, usize::MAX] {
+    for place in [2, 3, 4, 5, usize::MAX / SLOTS, usize::MAX / 8, usize::MAX] {
         assert_eq!(refusal(0.5, &x, &y, Sheet { place, ..given }), 11);
     }
     let days: Vec<f64> = (0..=MOST_POINTS as u32).map(f64::from).collect();

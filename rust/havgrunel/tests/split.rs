@@ -5,7 +5,8 @@ mod drawn;
 use drawn::table;
 use havgrunel::lent::{self, Buffers, Seam, Sheet};
 use havgrunel::{
-    ConvexMonotone, ConvexMonotoneInterpolation, Interpolator, Record, SLOTS, Split, inner_node,
+    ConvexMonotone, ConvexMonotoneInterpolation, Interpolator, Record, SLOTS, Section, Split,
+    inner_node,
 };
 use oracle::answers::rng::Rng;
 use oracle::words::bits;
@@ -76,21 +77,21 @@ fn old_callers_get_the_originals_rule() {
 
 #[test]
 fn p6_by_both_rules() {
-    let original = Record::quadratic_min(0.0, 1.0, 4.0, 1.0, 3.0, 0.0);
+    let original = Section::quadratic_min(0.0, 1.0, 4.0, 1.0, 3.0, 0.0);
     assert_eq!((original.tag, original.value(0.75)), (0x5000, Ok(1.5625)));
-    let careful = Record::quadratic_min_careful(0.0, 1.0, 4.0, 1.0, 3.0, 0.0);
+    let careful = Section::quadratic_min_careful(0.0, 1.0, 4.0, 1.0, 3.0, 0.0);
     assert_eq!((careful.tag, careful.value(0.75)), (0x4000, Ok(2.3125)));
     let total = original.primitive(1.0).expect("legal");
     assert!((total - 7.0 / 3.0).abs() < 1.0e-15, "{total}");
     assert_eq!(careful.primitive(1.0), Ok(3.0));
     // What the careful rule leaves whole has the parabola's own numbers.
-    let plain = Record::quadratic(0.0, 1.0, 4.0, 1.0, 3.0, 0.0);
-    assert_eq!(careful.slots[5..8], plain.slots[3..6]);
+    let plain = Section::quadratic(0.0, 1.0, 4.0, 1.0, 3.0, 0.0);
+    assert_eq!(careful.fields[5..8], plain.fields[3..6]);
     // A ratio of 0.5 is split by both.
     let low = [0.0, 1.0, 4.0, 1.0, 0.5, 0.0];
     let [a, b, c, d, e, f] = low;
-    let split = Record::quadratic_min_careful(a, b, c, d, e, f);
-    assert_eq!(split, Record::quadratic_min(a, b, c, d, e, f));
+    let split = Section::quadratic_min_careful(a, b, c, d, e, f);
+    assert_eq!(split, Section::quadratic_min(a, b, c, d, e, f));
     assert_eq!(split.tag, 0x5000);
 }
 
@@ -114,15 +115,15 @@ fn the_edges_of_the_ratio() {
         (huge, huge, f64::INFINITY, f64::NAN, false),
     ] {
         let told = format!("ends {f_prev:?} and {f_next:?}, average {average:?}");
-        let original = Record::quadratic_min(0.0, 1.0, f_prev, f_next, average, 0.0);
+        let original = Section::quadratic_min(0.0, 1.0, f_prev, f_next, average, 0.0);
         assert_eq!(original.tag, 0x5000, "{told}");
-        assert_eq!(bits(original.slots[12]), bits(ratio), "{told}");
-        let careful = Record::quadratic_min_careful(0.0, 1.0, f_prev, f_next, average, 0.0);
+        assert_eq!(bits(original.fields[12]), bits(ratio), "{told}");
+        let careful = Section::quadratic_min_careful(0.0, 1.0, f_prev, f_next, average, 0.0);
         assert_eq!(careful.tag & SPLIT != 0, split, "{told}");
         if split {
             assert_eq!(careful, original, "{told}");
         } else {
-            assert_eq!(careful.slots[12], 1.0, "{told}");
+            assert_eq!(careful.fields[12], 1.0, "{told}");
         }
     }
 }
