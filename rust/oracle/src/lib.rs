@@ -52,7 +52,7 @@ pub use judge::{
 pub use knots::knots;
 pub use nodes::nodes;
 pub use recipe::{Convex, Quadratic, Recipe};
-pub use record::{Record, SLOTS, legal_tags};
+pub use record::{FIELDS, Record, legal_tags};
 pub use refusal::Refusal;
 pub use settings::{Seam, Settings};
 pub use totals::totals;

@@ -1,18 +1,18 @@
-//! A section as the document stores it: a tag and 24 floats.
+//! A section as the document stores it: a tag and 24 floats. What a curve's record adds to these, `knots` tells.
 
 use crate::words;
 
-/// Floats to a record.
-pub const SLOTS: usize = 24;
+/// The floats of a section itself, which stand first in a record.
+pub const FIELDS: usize = 24;
 
 const FIRST_QUADRATIC: usize = 1;
 const FIRST_OTHER: usize = 13;
 
-/// The record of a section.
+/// The record of a section by itself.
 #[derive(Clone, Copy, Debug)]
 pub struct Record {
     pub tag: u16,
-    pub slots: [f64; SLOTS],
+    pub slots: [f64; FIELDS],
 }
 
 impl Record {
@@ -20,7 +20,7 @@ impl Record {
     pub fn empty() -> Record {
         Record {
             tag: 0,
-            slots: [0.0; SLOTS],
+            slots: [0.0; FIELDS],
         }
     }
 
@@ -39,7 +39,7 @@ impl Record {
     }
 
     /// The slots as bits, one pattern for all NaNs.
-    pub fn bits(&self) -> [u64; SLOTS] {
+    pub fn bits(&self) -> [u64; FIELDS] {
         self.slots.map(words::bits)
     }
 

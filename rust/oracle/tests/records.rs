@@ -3,11 +3,11 @@
 
 use std::collections::BTreeSet;
 
-use oracle::{Convex, Quadratic, Recipe, Record, SLOTS, legal_tags, section, section_of, words};
+use oracle::{Convex, FIELDS, Quadratic, Recipe, Record, legal_tags, section, section_of, words};
 
 /// The whole record: what stands in the two parts, and +0.0 elsewhere.
 fn check(recipe: Recipe, tag: u16, weight: f64, quadratic: &[f64], other: &[f64]) {
-    let mut slots = [0.0; SLOTS];
+    let mut slots = [0.0; FIELDS];
     slots[0] = weight;
     slots[1..][..quadratic.len()].copy_from_slice(quadratic);
     slots[13..][..other.len()].copy_from_slice(other);
