@@ -344,6 +344,7 @@ impl Display for Case {
             Case::Record(record, slots, answer, asked) => {
                 writeln!(f, "record {:04x}", record.tag)?;
                 list(f, "slots", &record.slots[..(*slots).min(oracle::FIELDS)])?;
+                writeln!(f, "  slots lent: {slots}")?;
                 writeln!(f, "  entries for the answers: {answer}")?;
                 list(f, "asked", asked)
             }

@@ -4,10 +4,13 @@ use std::fmt::{self, Display, Formatter};
 
 use oracle::legal_tags;
 
+use crate::at_knots::Asked;
 use crate::expected::{AVERAGE_BELOW_ZERO, Seen, Splits};
+use at_knots::AtKnots;
 use havgrunel::Split;
 use safe::Safe;
 
+mod at_knots;
 pub mod safe;
 
 /// Refusal numbers that curves, records and sheets can meet.
@@ -78,6 +81,7 @@ pub struct Counts {
     /// Careful parabolas by themselves that the original splits, by their ratios.
     ratios: [u64; RATIOS.len()],
     pub safe: Safe,
+    at_knots: AtKnots,
     refused: [u64; NUMBERS],
     /// Sections of curves, and sections by themselves, by the upper bits of their tags.
     built: [u64; 512],
@@ -151,6 +155,7 @@ impl Default for Counts {
             kept_split: 0,
             ratios: [0; RATIOS.len()],
             safe: Safe::default(),
+            at_knots: AtKnots::default(),
             refused: [0; NUMBERS],
             built: [0; 512],
             single: [0; 512],
@@ -164,8 +169,10 @@ impl Counts {
         self.refused[usize::from(number)] += 1;
     }
 
-    pub fn built(&mut self, tag: u16) {
+    /// A section of a curve, and what its record says behind its own numbers.
+    pub fn built(&mut self, tag: u16, asked: &Asked<'_>) {
         self.built[usize::from(tag >> 7)] += 1;
+        self.at_knots.see(asked);
     }
 
     pub fn single(&mut self, tag: u16) {
@@ -234,6 +241,7 @@ impl Counts {
             *mine += others;
         }
         self.safe.add(&other.safe);
+        self.at_knots.add(&other.at_knots);
         for (mine, others) in [
             (&mut self.refused[..], &other.refused[..]),
             (&mut self.ratios, &other.ratios),
@@ -303,11 +311,8 @@ impl Counts {
                 missing.push(format!("no careful parabola had a ratio {name}"));
             }
         }
-        let none = self
-            .safe
-            .rows()
-            .into_iter()
-            .filter(|(_, count)| *count == 0);
+        let rows = self.safe.rows().into_iter().chain(self.at_knots.rows());
+        let none = rows.filter(|(_, count)| *count == 0);
         missing.extend(none.map(|(name, _)| format!("none of this: {name}")));
         missing
     }
@@ -353,6 +358,9 @@ impl Display for Counts {
         }
         for (name, mask, bits) in KINDS {
             row(&format!("in curves: {name}"), self.kind(mask, bits))?;
+        }
+        for (name, count) in self.at_knots.rows() {
+            row(&name, count)?;
         }
         for tag in legal_tags() {
             let place = usize::from(tag >> 7);

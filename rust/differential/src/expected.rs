@@ -1,10 +1,11 @@
 //! What a section or a curve has to be: the original's, and in the careful and the safe mode the original's with every section made
 //! anew that the mode's rule is about. The original has no such modes; its nodes, totals and choice of kinds are the same in all.
 
-use oracle::{Recipe, Record, Refusal};
+use oracle::{Recipe, Record, Refusal, Settings};
 
 use crate::anew::{Anew, Averages, CONSTANT, FOURTH_SPLIT, OTHER_KIND, OTHER_RATIO, OTHER_SPLIT};
 use crate::anew::{RATIO, SPLIT};
+use crate::at_knots::Asked;
 use crate::parabola::Made;
 use crate::{careful, safe};
 
@@ -197,6 +198,8 @@ pub struct Curve {
     original: oracle::Curve,
     last_knot: f64,
     remade: Option<Remade>,
+    /// What the record of each section says behind its own numbers.
+    at_knots: Vec<[f64; 3]>,
 }
 
 impl Remade {
@@ -223,16 +226,40 @@ impl Remade {
             seen,
         }
     }
+
+    /// Puts the prices at the knots of its own sections in the place of the original's. They are those of the original's section with the
+    /// same record; the totals are the table's.
+    fn price(&self, x: &[f64], at_knots: &mut [[f64; 3]]) {
+        let sections = self.sections.iter().zip(x.windows(2)).zip(at_knots);
+        for ((anew, knots), [left, right, _]) in sections {
+            if let Some(anew) = anew {
+                let section = oracle::section_of(&anew.record).expect("a legal record");
+                *left = section.value(knots[0]);
+                *right = section.value(knots[1]);
+            }
+        }
+    }
 }
 
 impl Curve {
     /// From the original's curve of a table, by a mode's rule or by the original's.
-    pub fn new(original: oracle::Curve, x: &[f64], y: &[f64], rule: Option<Rule>) -> Curve {
+    pub fn new(
+        original: oracle::Curve,
+        settings: &Settings,
+        x: &[f64],
+        y: &[f64],
+        rule: Option<Rule>,
+    ) -> Curve {
         let remade = rule.map(|rule| Remade::of(&original, x, y, rule));
+        let mut at_knots = oracle::knots(settings, x, y, &original);
+        if let Some(remade) = &remade {
+            remade.price(x, &mut at_knots);
+        }
         Curve {
             original,
             last_knot: x[x.len() - 1],
             remade,
+            at_knots,
         }
     }
 
@@ -260,6 +287,15 @@ impl Curve {
     pub fn record(&self, place: usize) -> Record {
         let anew = self.anew(place).map(|anew| anew.record);
         anew.unwrap_or_else(|| self.original.record(place))
+    }
+
+    /// What its record says behind its own numbers.
+    pub fn at_knots(&self, place: usize) -> Asked<'_> {
+        Asked {
+            all: &self.at_knots,
+            place,
+            held: self.held(),
+        }
     }
 
     pub fn f_next(&self, place: usize) -> f64 {

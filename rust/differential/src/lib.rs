@@ -2,6 +2,7 @@
 //! smaller. They are a library so that tests can judge by another rule.
 
 mod anew;
+pub mod at_knots;
 pub mod careful;
 pub mod case;
 pub mod counts;

@@ -4,7 +4,7 @@ use std::alloc::{GlobalAlloc, Layout, System};
 use std::cell::Cell;
 
 use havgrunel::lent::{self, Buffers, Previous};
-use havgrunel::{ConvexMonotone, Record, sqrt};
+use havgrunel::{ConvexMonotone, Record, SLOTS, sqrt};
 
 thread_local! {
     static TAKEN: Cell<usize> = const { Cell::new(0) };
@@ -32,7 +32,7 @@ static COUNTING: Counting = Counting;
 fn lent_calls_take_no_memory() {
     let (x, y) = ([0.0, 1.0, 2.0, 4.0], [0.0, 5.0, 0.5, 3.0]);
     let method = ConvexMonotone::default();
-    let (mut nodes, mut tags, mut slots) = ([0.0; 4], [0; 3], [0.0; 72]);
+    let (mut nodes, mut tags, mut slots) = ([0.0; 4], [0; 3], [0.0; 3 * SLOTS]);
     let (mut next_nodes, mut next_tags, mut next_slots) = (nodes, tags, slots);
     let before = TAKEN.get();
 

@@ -5,11 +5,8 @@ use differential::careful::{Rule, in_period, touching};
 use differential::case::{Case, Previous, Queries, Room, Sheets, Single, Step, Table};
 use differential::judge::Judge;
 use differential::{draw, shrink};
-use havgrunel::Split;
+use havgrunel::{FIELDS, Split};
 use oracle::{Quadratic, Recipe, Settings};
-
-/// Slots of a record.
-const SLOTS: usize = 24;
 
 /// Quadraticity 0 with positivity.
 const STEEP: Settings = Settings {
@@ -86,7 +83,7 @@ fn parabola(f_prev: f64, f_next: f64, average: f64) -> Case {
     Case::Section(Single {
         recipe: Recipe::Quadratic(Quadratic::Min(args)),
         split: Split::Careful,
-        lent: SLOTS,
+        lent: FIELDS,
         asked: vec![0.0, 0.25, 0.75, 1.0],
     })
 }

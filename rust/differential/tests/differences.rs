@@ -3,7 +3,7 @@
 use std::panic::{self, UnwindSafe};
 
 use havgrunel::lent::{self, Buffers, Curve, Seam};
-use havgrunel::{ConvexMonotone, Record, Refusal, Split};
+use havgrunel::{ConvexMonotone, Refusal, SLOTS, Section, Split};
 use oracle::{Convex, Quadratic, Recipe, Settings};
 
 const PLAIN: Settings = Settings {
@@ -36,7 +36,8 @@ fn days(points: u32) -> Vec<f64> {
 
 fn build(points: u32, seam: Option<Seam>) -> Result<Curve, Refusal> {
     let (x, y) = (days(points), vec![0.0; points as usize]);
-    let (mut nodes, mut tags, mut slots) = (y.clone(), vec![0; x.len()], vec![0.0; 24 * x.len()]);
+    let (mut nodes, mut tags) = (y.clone(), vec![0; x.len()]);
+    let mut slots = vec![0.0; SLOTS * x.len()];
     let buffers = Buffers {
         nodes: &mut nodes,
         tags: &mut tags,
@@ -122,11 +123,11 @@ fn the_weight_of_a_combination() {
     let quadratic = [0.0, 1.0, 0.5, 2.0, 1.0, 0.0];
     let convex = [0.0, 1.0, -1.0, 5.0, 2.0, 0.5, 0.0];
     let [a, b, c, d, e, f] = quadratic;
-    let one = Record::quadratic(a, b, c, d, e, f);
+    let one = Section::quadratic(a, b, c, d, e, f);
     let [a, b, c, d, e, f, g] = convex;
-    let two = Record::convex_monotone2(a, b, c, d, e, f, g);
+    let two = Section::convex_monotone2(a, b, c, d, e, f, g);
     for weight in [0.0, 1.0, -1.0, f64::NAN] {
-        let both = Record::combination(&one, &two, weight).expect("any weight");
+        let both = Section::combination(&one, &two, weight).expect("any weight");
         if !at_hand() {
             continue;
         }
@@ -165,9 +166,9 @@ fn the_default() {
 fn the_careful_split() {
     let numbers = [0.0, 1.0, 4.0, 1.0, 3.0, 0.0];
     let [a, b, c, d, e, f] = numbers;
-    let original_rule = Record::quadratic_min(a, b, c, d, e, f);
+    let original_rule = Section::quadratic_min(a, b, c, d, e, f);
     assert_eq!(original_rule.value(0.75), Ok(1.5625));
-    let careful = Record::quadratic_min_careful(a, b, c, d, e, f);
+    let careful = Section::quadratic_min_careful(a, b, c, d, e, f);
     assert_eq!(careful.value(0.75), Ok(2.3125));
     if at_hand() {
         let judged = oracle::section(&Recipe::Quadratic(Quadratic::Min(numbers)));
@@ -217,11 +218,11 @@ fn a_nan_is_a_nan() {
 #[test]
 fn lent_buffers_and_records() {
     let (x, y) = ([0.0, 1.0], [0.0, 0.0]);
-    let (mut nodes, mut tags, mut slots) = ([0.0; 2], [0; 1], [0.0; 24]);
+    let (mut nodes, mut tags, mut slots) = ([0.0; 2], [0; 1], [0.0; SLOTS]);
     let buffers = Buffers {
         nodes: &mut nodes,
         tags: &mut tags,
-        slots: &mut slots[..23],
+        slots: &mut slots[..SLOTS - 1],
     };
     let short = lent::build(&x, &y, method(), false, None, buffers);
     assert_eq!(short, Err(Refusal::BufferTooShort));

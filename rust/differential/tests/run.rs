@@ -156,6 +156,33 @@ fn safe_tables_are_judged_and_a_run_without_any_fails() {
 }
 
 #[test]
+fn records_are_judged_at_their_knots_and_a_run_without_any_fails() {
+    if !oracle::AT_HAND {
+        return;
+    }
+    let many = &*MANY;
+    for (name, least) in [
+        ("left price infinite", 100),
+        ("left price not a number", 1000),
+        ("right price infinite", 100),
+        ("right price not a number", 1000),
+        ("total after it infinite", 1000),
+        ("total after it not a number", 100),
+        ("held last periods", 1000),
+        ("periods of two points", 300),
+        ("the next starts from another", 1000),
+    ] {
+        let name = format!("in records: {name}");
+        assert!(count(many, &name) >= least, "{name}: {many}");
+    }
+
+    let output = run(&["--cases", "10"]);
+    let few = String::from_utf8(output.stdout).expect("text");
+    let line = "too few cases: none of this: in records: left price infinite\n";
+    assert!(few.contains(line), "{few}");
+}
+
+#[test]
 fn without_the_original_it_says_so() {
     if !oracle::AT_HAND {
         assert_eq!(

@@ -101,7 +101,7 @@ fn spoil_step(rng: &mut Rng, step: &mut Step, total: usize) {
             }
             match rng.below(4) {
                 0 => tags = tags.saturating_sub(1),
-                1 => slots = slots.saturating_sub(1 + index(rng, 30)),
+                1 => slots = slots.saturating_sub(1 + index(rng, SLOTS + 3)),
                 _ => {}
             }
             let some = rng.chance(2);

@@ -8,13 +8,17 @@ mod section;
 mod sheets;
 mod tables;
 
-use havgrunel::{MOST_POINTS, Split};
+use havgrunel::{FIELDS, MOST_POINTS, SLOTS, Split};
 use oracle::answers::rng::Rng;
 use oracle::{Settings, legal_tags};
 
 use crate::case::{Case, Queries, Room};
 
 const LEAST: f64 = f64::from_bits(1);
+
+/// By how much room can differ: the slots of a record, and those behind a section's own numbers in it.
+const RECORD: i32 = SLOTS as i32;
+const BEHIND: i32 = (SLOTS - FIELDS) as i32;
 
 /// Numbers at the ends of the range and at its turns.
 const ENDS: [f64; 22] = [
@@ -159,7 +163,7 @@ fn room(rng: &mut Rng) -> Room {
     match rng.below(8) {
         0..=4 => Room::default(),
         _ => {
-            let mut more = || rng.pick(&[0, 0, 1, 2, 24, 25]);
+            let mut more = || rng.pick(&[0, 0, 1, 2, RECORD, RECORD + 1]);
             Room {
                 nodes: more(),
                 tags: more(),
@@ -172,7 +176,7 @@ fn room(rng: &mut Rng) -> Room {
 }
 
 fn shorten(rng: &mut Rng, room: &mut Room) {
-    let less = rng.pick(&[-1, -1, -1, -24, -100_000]);
+    let less = rng.pick(&[-1, -1, -BEHIND, -RECORD, -100_000]);
     match rng.below(5) {
         0 => room.nodes = less,
         1 => room.tags = less,

@@ -1,10 +1,10 @@
 //! Curves that are asked through changed copies of their knots and records.
 
-use havgrunel::{MOST_POINTS, SLOTS};
+use havgrunel::{FIELDS, MOST_POINTS, SLOTS};
 use oracle::answers::rng::Rng;
 
 use super::tables::table;
-use super::{ENDS, index, number, queries, tag};
+use super::{BEHIND, ENDS, RECORD, index, number, queries, tag};
 use crate::case::{Case, Reading};
 
 pub fn reading(rng: &mut Rng) -> Case {
@@ -47,7 +47,7 @@ pub fn reading(rng: &mut Rng) -> Case {
                 }
             }
             5 => reading.tags = rng.pick(&[-1, -2, 1, 5]),
-            6 => reading.slots = rng.pick(&[-1, -24, 1, 24, 240]),
+            6 => reading.slots = rng.pick(&[-1, -BEHIND, -RECORD, 1, RECORD, 10 * RECORD]),
             7 | 8 => reading.new_tags.push((index(rng, points), tag(rng))),
             9 | 10 => {
                 let place = index(rng, SLOTS * (points - 1));
@@ -64,7 +64,7 @@ pub fn reading(rng: &mut Rng) -> Case {
                 0 => rng.pick(&[points - 1, points, usize::MAX]),
                 _ => index(rng, points),
             },
-            rng.pick(&[SLOTS, SLOTS, SLOTS + 1, SLOTS - 1, 0]),
+            rng.pick(&[SLOTS, SLOTS, SLOTS + 1, SLOTS - 1, FIELDS, 0]),
         ));
     }
     Case::Reading(reading)

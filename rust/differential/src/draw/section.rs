@@ -1,6 +1,6 @@
 //! Sections by themselves: of every kind from its arguments, and from records of any numbers.
 
-use havgrunel::{SLOTS, Split};
+use havgrunel::{FIELDS, SLOTS, Split};
 use oracle::answers::rng::Rng;
 use oracle::{Convex, Quadratic, Recipe, Record};
 
@@ -75,7 +75,16 @@ pub fn section(rng: &mut Rng) -> Case {
 /// A section from its arguments, asked around its period.
 pub fn single(rng: &mut Rng, recipe: Recipe, x_prev: f64, x_next: f64) -> Case {
     let record = oracle::section(&recipe).record();
-    let lent = rng.pick(&[SLOTS, SLOTS, SLOTS, SLOTS, SLOTS, SLOTS + 3, SLOTS - 1, 0]);
+    let lent = rng.pick(&[
+        FIELDS,
+        FIELDS,
+        FIELDS,
+        FIELDS,
+        FIELDS + 1,
+        SLOTS,
+        FIELDS - 1,
+        0,
+    ]);
     Case::Section(Single {
         recipe,
         split: Split::Original,
@@ -105,7 +114,7 @@ fn record_queries(rng: &mut Rng, record: &Record, x_prev: f64, x_next: f64) -> V
 /// A record with any numbers in it.
 pub fn record(rng: &mut Rng) -> Case {
     let tag = tag(rng);
-    let mut slots = [0.0; SLOTS];
+    let mut slots = [0.0; FIELDS];
     let style = rng.below(4);
     for slot in &mut slots {
         *slot = match style {
@@ -118,12 +127,12 @@ pub fn record(rng: &mut Rng) -> Case {
     if rng.chance(2) {
         // Places in order, so that every stretch of a split section is met.
         slots[1..5].sort_by(f64::total_cmp);
-        slots[22..24].sort_by(f64::total_cmp);
+        slots[22..].sort_by(f64::total_cmp);
     }
     let record = Record { tag, slots };
     let (x_prev, x_next) = (slots[1], slots[13]);
     let asked = record_queries(rng, &record, x_prev, x_next);
-    let lent = rng.pick(&[SLOTS, SLOTS, SLOTS, SLOTS, SLOTS, SLOTS - 1, 0]);
+    let lent = rng.pick(&[FIELDS, FIELDS, FIELDS, FIELDS, SLOTS, FIELDS - 1, 0]);
     let answer = rng.pick(&[3, 3, 3, 3, 3, 2, 0]);
     Case::Record(record, lent, answer, asked)
 }

@@ -121,7 +121,7 @@ impl Judge {
             _ => None,
         };
         let nodes = oracle::nodes(settings, x, y, seam).expect("a table that grew has nodes");
-        let curve = Curve::new(curve, x, y, rule);
+        let curve = Curve::new(curve, settings, x, y, rule);
         self.counts.made(Way::Grown, step.split, curve.seen());
         self.same_curve(x, &curve, &nodes)?;
         if curve.held() != held {

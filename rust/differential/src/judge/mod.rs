@@ -12,7 +12,7 @@ mod section;
 mod sheets;
 
 use havgrunel::lent::{Seam, Tail};
-use havgrunel::{ConvexMonotone, MOST_POINTS, SLOTS, Split, ffi};
+use havgrunel::{ConvexMonotone, FIELDS, MOST_POINTS, SLOTS, Split, ffi};
 use oracle::words::{bits, same};
 use oracle::{Record, Settings};
 
@@ -20,7 +20,7 @@ use crate::case::{Case, Queries, Room, Table};
 use crate::counts::{Counts, Way};
 use crate::expected::{Curve, Rule};
 use crate::lent::Lent;
-use crate::{careful, safe};
+use crate::{at_knots, careful, safe};
 use asking::{breaks, query};
 
 /// A number that is not the other side's.
@@ -114,6 +114,7 @@ pub struct Judge {
     lent: Lent,
     careful: careful::Rule,
     safe: safe::Rule,
+    at_knots: at_knots::Rule,
 }
 
 impl Default for Judge {
@@ -124,6 +125,7 @@ impl Default for Judge {
             lent: Lent::default(),
             careful: careful::in_period,
             safe: safe::RULE,
+            at_knots: at_knots::own,
         }
     }
 }
@@ -141,6 +143,14 @@ impl Judge {
     pub fn safely_by(safe: safe::Rule) -> Judge {
         Judge {
             safe,
+            ..Judge::default()
+        }
+    }
+
+    /// One that judges by this rule what records say behind their sections' own numbers.
+    pub fn at_knots_by(at_knots: at_knots::Rule) -> Judge {
+        Judge {
+            at_knots,
             ..Judge::default()
         }
     }
@@ -214,7 +224,7 @@ impl Judge {
         };
         let nodes = oracle::nodes(settings, &table.x, &table.y, seam);
         let nodes = nodes.expect("a table that builds has nodes");
-        let curve = Curve::new(curve, &table.x, &table.y, rule);
+        let curve = Curve::new(curve, settings, &table.x, &table.y, rule);
         self.counts.made(Way::Built, table.split, curve.seen());
         self.same_curve(&table.x, &curve, &nodes)?;
         self.ask(&table.x, *hold, curve, queries)?;
@@ -239,6 +249,7 @@ impl Judge {
         for place in 0..sections {
             self.same_section(knots, curve, place)?;
         }
+        self.lent.written(0, sections)?;
         same_tail(&self.lent.tail, &curve.extrapolation())
     }
 
@@ -246,11 +257,13 @@ impl Judge {
     fn same_section(&mut self, knots: &[f64], curve: &Curve, place: usize) -> Agreed {
         let lent = &self.lent;
         let record = curve.record(place);
-        self.counts.built(record.tag);
+        let asked = curve.at_knots(place);
+        self.counts.built(record.tag, &asked);
         let slots = &lent.slots[SLOTS * place..][..SLOTS];
-        same_record(lent.tags[place], slots, &record, || {
-            format!("section {place}")
-        })?;
+        let (fields, at_knots) = slots.split_at(FIELDS);
+        let what = || format!("section {place}");
+        same_fields(lent.tags[place], fields, &record, what)?;
+        same_at_knots(record.tag, at_knots, (self.at_knots)(&asked), what)?;
         let mut answers = [0.0; 3];
         let at = knots[place + 1];
         let number = ffi::section(lent.tags[place], slots, at, &mut answers);
@@ -280,7 +293,8 @@ fn same_tail(mine: &[f64], due: &[f64; 3]) -> Agreed {
     Ok(())
 }
 
-fn same_record(tag: u16, slots: &[f64], due: &Record, what: impl Fn() -> String) -> Agreed {
+/// That a section's own numbers are these.
+fn same_fields(tag: u16, fields: &[f64], due: &Record, what: impl Fn() -> String) -> Agreed {
     if tag != due.tag {
         let told = format!(
             "{}: the library has {tag:04x}, and {:04x} is due",
@@ -289,9 +303,25 @@ fn same_record(tag: u16, slots: &[f64], due: &Record, what: impl Fn() -> String)
         );
         return Err(Mismatch::new("a section's tag", told));
     }
-    for (place, (&mine, &other)) in slots.iter().zip(&due.slots).enumerate() {
+    assert_eq!(fields.len(), due.slots.len(), "a section has so many");
+    for (place, (&mine, &other)) in fields.iter().zip(&due.slots).enumerate() {
         let what = || format!("{}, tag {tag:04x}, slot {place}", what());
         same_float("a section's slot", what, mine, other)?;
+    }
+    Ok(())
+}
+
+/// That a record says this behind its section's own numbers.
+fn same_at_knots(tag: u16, mine: &[f64], due: [f64; 3], what: impl Fn() -> String) -> Agreed {
+    let parts = [
+        "a price at a left knot",
+        "a price at a right knot",
+        "a total after a period",
+    ];
+    assert_eq!(mine.len(), parts.len(), "a record has so many more");
+    for ((part, &mine), other) in parts.into_iter().zip(mine).zip(due) {
+        let what = || format!("{part} in {}, tag {tag:04x}", what());
+        same_float(part, what, mine, other)?;
     }
     Ok(())
 }
@@ -305,10 +335,11 @@ fn same_answers(mine: &[f64], due: &[f64; 3], at: f64) -> Agreed {
     Ok(())
 }
 
+/// The section's own part of the record at a place.
 fn record_at(tags: &[u16], slots: &[f64], place: usize) -> Record {
-    let slots = &slots[SLOTS * place..][..SLOTS];
+    let fields = &slots[SLOTS * place..][..FIELDS];
     Record {
         tag: tags[place],
-        slots: slots.try_into().expect("a record's slots"),
+        slots: fields.try_into().expect("a section's own numbers"),
     }
 }

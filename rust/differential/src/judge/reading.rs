@@ -22,7 +22,7 @@ impl Judge {
         let (false, Ok(built)) = (due != 0, judged) else {
             return Ok(());
         };
-        let built = expected::Curve::new(built, &table.x, &table.y, rule);
+        let built = expected::Curve::new(built, &table.settings, &table.x, &table.y, rule);
         let breaks = if reading.queries.breaks {
             breaks(&built)
         } else {

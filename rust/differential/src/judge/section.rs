@@ -1,9 +1,9 @@
 //! Sections by themselves, from their arguments and from their records.
 
-use havgrunel::{SLOTS, Split, ffi};
+use havgrunel::{FIELDS, Split, ffi};
 use oracle::{Convex, Quadratic, Recipe, Record};
 
-use super::{Agreed, Judge, Mismatch, same_answers, same_number, same_record};
+use super::{Agreed, Judge, Mismatch, same_answers, same_fields, same_number};
 use crate::case::Single;
 use crate::expected::Section;
 use crate::lent::{is_old, old};
@@ -18,10 +18,10 @@ impl Judge {
         let mut tag = 0xa5c3;
         let mut slots: Vec<f64> = (0..lent).map(old).collect();
         let number = made(recipe, single.split, &mut tag, &mut slots);
-        let due = if lent < SLOTS { 11 } else { 0 };
+        let due = if lent < FIELDS { 11 } else { 0 };
         self.counts.number(number);
         same_number("a section's refusal", number, due)?;
-        let written = if due == 0 { SLOTS } else { 0 };
+        let written = if due == 0 { FIELDS } else { 0 };
         for (place, &slot) in slots.iter().enumerate().skip(written) {
             if !is_old(place, slot) {
                 let told = format!("slot {place} of {lent} was written to");
@@ -42,8 +42,8 @@ impl Judge {
             Split::Careful => judged.ratio().map_or((), |ratio| self.counts.ratio(ratio)),
             Split::Safe => self.counts.safe.single(recipe, judged.other_ratio()),
         }
-        same_record(tag, &slots[..SLOTS], &record, || "the section".into())?;
-        self.section_asked(tag, &slots[..SLOTS], &judged, &single.asked)
+        same_fields(tag, &slots[..FIELDS], &record, || "the section".into())?;
+        self.section_asked(tag, &slots, &judged, &single.asked)
     }
 
     pub(super) fn record(
@@ -58,16 +58,18 @@ impl Judge {
         let due = match &judged {
             _ if entries < 3 => 11,
             None => 15,
-            Some(_) if lent < SLOTS => 15,
+            Some(_) if lent < FIELDS => 15,
             Some(_) => 0,
         };
+        // What is lent behind the section's own numbers is not looked at.
+        let slots = record.slots.into_iter().chain((FIELDS..).map(old));
+        let slots: Vec<f64> = slots.take(lent).collect();
         if let (0, Some(judged)) = (due, &judged) {
             self.counts.single(record.tag);
-            return self.section_asked(record.tag, &record.slots, judged, asked);
+            return self.section_asked(record.tag, &slots, judged, asked);
         }
         let mut answers: Vec<f64> = (0..entries).map(old).collect();
-        let slots = &record.slots[..lent.min(SLOTS)];
-        let number = ffi::section(record.tag, slots, 0.0, &mut answers);
+        let number = ffi::section(record.tag, &slots, 0.0, &mut answers);
         self.counts.number(number);
         same_number("a record's refusal", number, due)?;
         for (place, &answer) in answers.iter().enumerate() {
@@ -142,7 +144,7 @@ fn made(recipe: &Recipe, split: Split, tag: &mut u16, slots: &mut [f64]) -> u8 {
         Recipe::Convex(part) => convex_made(part, split, tag, slots),
         Recipe::Quadratic(part) => quadratic_made(part, split, tag, slots),
         Recipe::Combination(weight, quadratic, convex) => {
-            let (mut other_tag, mut other) = (0, [0.0; SLOTS]);
+            let (mut other_tag, mut other) = (0, [0.0; FIELDS]);
             let number = convex_made(convex, split, tag, slots);
             if number != 0 {
                 return number;

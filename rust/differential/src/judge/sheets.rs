@@ -42,7 +42,7 @@ fn whole(case: &Sheets, rule: Option<Rule>) -> Result<Whole, u8> {
     let nodes = oracle::nodes(settings, x, y, None).expect("a table that builds has nodes");
     let totals = oracle::totals(settings, x, y).expect("a table that builds has totals");
     Ok(Whole {
-        curve: Curve::new(curve, x, y, rule),
+        curve: Curve::new(curve, settings, x, y, rule),
         nodes,
         totals,
     })

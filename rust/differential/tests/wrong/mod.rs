@@ -4,7 +4,7 @@ use differential::careful;
 use differential::case::{Case, Previous, Queries, Room, Sheets, Single, Step, Table};
 use differential::parabola::Period;
 use differential::safe::{Fate, NARROW, RULE, Rule, convex, may_split, parabola, touching};
-use havgrunel::{SLOTS, Split};
+use havgrunel::{FIELDS, Split};
 use oracle::{Convex, Quadratic, Recipe, Settings};
 
 const SETTINGS: Settings = Settings {
@@ -70,7 +70,7 @@ fn single(recipe: Recipe) -> Case {
     Case::Section(Single {
         recipe,
         split: Split::Safe,
-        lent: SLOTS,
+        lent: FIELDS,
         asked: vec![0.0, 0.25, 0.75, 1.0],
     })
 }
