@@ -18,20 +18,22 @@ pub fn numbers(what: &str, ours: &[f64], theirs: &[f64]) {
     }
 }
 
-/// Holds a curve against the original's: every record and what answers beyond its last knot, then prices and totals of the
-/// very curve that is measured.
+/// Holds the curve of a table against the original's: every record, its prices at knots and its total too, and what answers beyond its
+/// last knot, then prices and totals of the very curve that is measured.
 pub fn curves(
     what: &str,
     settings: &Settings,
-    knots: &[f64],
+    (knots, averages): (&[f64], &[f64]),
     (room, curve): (&Room, &Curve),
     (told, measured): (&oracle::Curve, &plain::Curve),
 ) {
     assert_eq!(curve.sections, told.sections(), "{what}: the counts differ");
-    for place in 0..curve.sections {
+    let at_knots = oracle::knots(settings, knots, averages, told);
+    for (place, at_knots) in at_knots.iter().enumerate() {
         let record = told.record(place);
         assert_eq!(room.tags[place], record.tag, "{what}: tag {place} differs");
-        numbers(what, &room.slots[SLOTS * place..][..SLOTS], &record.slots);
+        let theirs = [&record.slots[..], at_knots].concat();
+        numbers(what, &room.slots[SLOTS * place..][..SLOTS], &theirs);
     }
     let tail = curve.tail;
     numbers(

@@ -24,7 +24,13 @@ fn check(settings: &Settings, tables: &[Table], room: &mut Room) {
         let nodes = oracle::nodes(settings, knots, averages, None).expect("it has nodes");
         same::numbers("nodes", &room.nodes[..table.points()], &nodes);
         let measured = plain::build(settings, knots, averages).expect("the original builds it");
-        same::curves("build", settings, knots, (room, &curve), (&told, &measured));
+        same::curves(
+            "build",
+            settings,
+            (knots, averages),
+            (room, &curve),
+            (&told, &measured),
+        );
     }
 }
 

@@ -61,7 +61,13 @@ fn check(table: &Table, rooms: &mut [Room; 2]) {
         let from = measured.as_ref();
         let bare = plain::grow(&GAS, knots, averages, LOCALISATION, from, size);
         let bare = bare.unwrap_or_else(|_| panic!("the original grows a winter"));
-        same::curves("growth", &GAS, knots, (room, &curve), (&other, &bare));
+        same::curves(
+            "growth",
+            &GAS,
+            (knots, averages),
+            (room, &curve),
+            (&other, &bare),
+        );
         told = Some(other);
         measured = Some(bare);
     });
