@@ -1,19 +1,31 @@
--- 02, K9: what the three last slots of a record hold, as a build leaves them in lent buffers that have room.
+-- 02, K9: what the three last slots of each record hold, as the records are left in buffers that have room for them.
 use Prim.Native.Nat.{ℕ, _+_, _-_, _*_, _≤_, _<_}
 use native.Mathlib.Omega.{arith}
+use mathlib.Core.Bool.{_&&_}
 use mathlib.Core.List.{List}
-use mathlib.Core.Path.{_≡_, _∙_}
+use mathlib.Core.Path.{_≡_, refl, sym, subst, _∙_}
+use lib.Dec.{eqb}
 use lib.Ieee.{Float}
 use lib.ListN.{length}
 use Rattle.numbers.specs.Sizes.{slotCount}
+use Rattle.numbers.proofs.Ways.{of-both}
 use Rattle.section.specs.Section.{value}
 use Rattle.record.specs.Knots.{leftPrice, rightPrice, totalAfter}
 use Rattle.record.proofs.RoundTrip.{left-in, right-in, total-in}
 use Rattle.table.specs.Table.{at, totalAt}
 use Rattle.table.specs.declared.ends.Frame.{Frame}
-use Rattle.assembly.specs.Making.{slotsAfter}
-use Rattle.assembly.specs.Sections.{sectionAt}
-use Rattle.assembly.proofs.ReadBack.{slot-read-back}
+use Rattle.choice.specs.Totals.{StartsFrom}
+use Rattle.choice.proofs.Totals.{section-starts}
+use Rattle.assembly.specs.Knots.{KnotsAt}
+use Rattle.assembly.specs.Making.{tagsAfter, slotsAfter}
+use Rattle.assembly.specs.Sections.{periodAt, sectionAt}
+use Rattle.assembly.proofs.ReadBack.{slot-read-back, record-read-back}
+
+-- the section of a period starts from the total before it, held or shaped
+starts-here : (x y : List Float) (frame : Frame) (i : ℕ) → StartsFrom (totalAt x y frame i) (sectionAt x y frame i)
+unfolding sectionAt
+starts-here x y frame i =
+    of-both (StartsFrom (totalAt x y frame i)) (frame .hold && eqb i (length x - 2)) _ _ refl (section-starts (frame .method) (periodAt x y frame i))
 
 module _ (x y : List Float) (frame : Frame) (i : ℕ) (slots : List Float) (l : i < length x - 1) (room : slotCount * (length x - 1) ≤ length slots) where
   pub left-left : at (slotsAfter 0 x y frame slots) (slotCount * i + leftPrice) ≡ value (sectionAt x y frame i) (at x i)
@@ -24,3 +36,18 @@ module _ (x y : List Float) (frame : Frame) (i : ℕ) (slots : List Float) (l : 
 
   pub total-left : at (slotsAfter 0 x y frame slots) (slotCount * i + totalAfter) ≡ totalAt x y frame (i + 1)
   total-left = slot-read-back x y frame i totalAfter slots l (omega arith) room ∙ total-in _ _ _ _
+
+  pub knots-left : (tags : List ℕ) → length x - 1 ≤ length tags → KnotsAt x y frame (tagsAfter 0 x y frame tags) (slotsAfter 0 x y frame slots) i
+  knots-left tags more = record {
+    section = sectionAt x y frame i;
+    held = record-read-back x y frame i tags slots l more room;
+    starts = starts-here x y frame i;
+    left = left-left;
+    right = right-left;
+    total = total-left;
+  }
+
+-- the total in a record is the one that the next record's section starts from
+pub total-carried : (x y : List Float) (frame : Frame) (tags : List ℕ) (slots : List Float) (i : ℕ) → KnotsAt x y frame tags slots i → (next : KnotsAt x y frame tags slots (i + 1)) →
+    StartsFrom (at slots (slotCount * i + totalAfter)) (next .section)
+total-carried x y frame tags slots i here next = subst (λ (total : Float). StartsFrom total (next .section)) (sym (here .total)) (next .starts)

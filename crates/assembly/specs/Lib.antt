@@ -2,3 +2,4 @@ pub mod Sections
 pub mod Making
 pub mod Steps
 pub mod Careful
+pub mod Knots

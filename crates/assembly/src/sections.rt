@@ -43,7 +43,8 @@ fn copy(from: [f64; FIELDS], to: &mut [f64], at: usize)
     }
 }
 
-// Writes the record of a period at its place: the section, its price at the two knots, and the total after it.
+// Writes the record of a period at its place: the section, its price at the two knots, and the total after it. The prices come before the copy: up to
+// there the compiler still knows the section's kind from its making, and afterwards it would have to look it up.
 fn put(
     section: Section,
     left: f64,
@@ -58,9 +59,9 @@ fn put(
     ensures slots { λ _. ⌜ now (slots .exit) ≡ overlay (slotCount * i) slotCount (λ k. getD (recordOf section left right total) k nan) (now (slots .entry)) ⌝ }
 {
     tags[i] = record::tag::tag_of(section);
+    let prices = knot_prices(section, left, right);
     let from = SLOTS * i;
     copy(record::slots::slots_of(section), slots, from);
-    let prices = knot_prices(section, left, right);
     slots[from + LEFT_PRICE] = prices.left;
     slots[from + RIGHT_PRICE] = prices.right;
     slots[from + TOTAL_AFTER] = total;
@@ -96,7 +97,8 @@ fn section_at(xs: &[f64], ys: &[f64], frame: Frame, nodes: &[f64], i: usize, tot
 }
 
 // Writes the record of every section; answers the total before the last period. The one place where a section is made and written: the compiler then
-// takes both into the loop, and a section goes from its formulas straight into its slots. A second place would have it copied, which takes half as long again.
+// takes both into the loop, and a section goes from its formulas straight into its slots. A second place would have it copied, which takes half as long again;
+// so would a variable that holds the section, by a tenth.
 fn put_sections(
     xs: &[f64],
     ys: &[f64],
@@ -115,12 +117,20 @@ fn put_sections(
     let mut total = frame.start;
     let mut before = total;
     for i in 0..count {
-        let section = section_at(xs, ys, frame, nodes, i, total);
         let left = xs[i];
         let right = xs[i + 1];
+        let next = total + ys[i + 1] * (right - left);
+        put(
+            section_at(xs, ys, frame, nodes, i, total),
+            left,
+            right,
+            next,
+            i,
+            tags,
+            slots,
+        );
         before = total;
-        total = total + ys[i + 1] * (right - left);
-        put(section, left, right, total, i, tags, slots);
+        total = next;
     }
     before
 }

@@ -5,5 +5,6 @@ pub mod Signs
 pub mod Ways
 pub mod Careful
 pub mod Safe
+pub mod Totals
 pub mod Etas
 pub mod Finite

@@ -3,4 +3,5 @@ pub mod QuadraticPart
 pub mod ConvexPart
 pub mod Regions
 pub mod Careful
+pub mod Totals
 pub mod Steps

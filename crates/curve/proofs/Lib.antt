@@ -4,3 +4,4 @@ pub mod InNumbers
 pub mod Careful
 pub mod Safe
 pub mod Finite
+pub mod Knots

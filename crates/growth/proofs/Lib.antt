@@ -1,3 +1,4 @@
 pub mod Seams
 pub mod Unique
 pub mod InNumbers
+pub mod Knots

@@ -1,5 +1,6 @@
 pub mod Unique
 pub mod RoundTrip
+pub mod Fields
 pub mod Legal
 pub mod InNumbers
 pub mod Numbers

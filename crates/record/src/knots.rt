@@ -10,7 +10,9 @@ ghost use Rattle.record.specs.Knots.{atBoth, knotPrices};
 
 // The slots that a record adds to its section's own.
 pub const LEFT_PRICE: usize = FIELDS;
+
 pub const RIGHT_PRICE: usize = FIELDS + 1;
+
 pub const TOTAL_AFTER: usize = FIELDS + 2;
 
 pub struct KnotPrices {
@@ -56,7 +58,7 @@ fn convex_prices(part: ConvexMonotonePart, left: f64, right: f64) -> KnotPrices
     }
 }
 
-// The price at both knots. The kind is told once for both: a section that is asked twice is copied for each, and a build takes twice as long.
+// The price at both knots. The kind is asked once for both: with a question for each, the compiler keeps the formulas apart, and a build takes twice as long.
 pub fn knot_prices(section: Section, left: f64, right: f64) -> KnotPrices
     ensures { λ r. ⌜ r ≡ knotPrices section left right ⌝ }
 {

@@ -18,14 +18,14 @@ same-length-2 c = simp length-set (search needs)
 returns : tie.Need-returns
 returns c =
     let a = c .before .before .before .before .before .before .before .before .before .args in
-    let fields = rw (c .before .before .before .before .before .slots-of .ensures) at (c .before .before .before .copy .ensures) in
-    (rw (c .before .before .before .before .before .before .tag-of .ensures), rw (c .knot-prices .ensures) (record-written (a .section) (a .left) (a .right) (a .total) _ _ _ fields))
+    let fields = rw (c .before .before .before .before .slots-of .ensures) at (c .before .before .copy .ensures) in
+    (rw (c .before .before .before .before .before .before .tag-of .ensures), rw (c .before .before .before .before .before .knot-prices .ensures) (record-written (a .section) (a .left) (a .right) (a .total) _ _ _ fields))
 
 pub put-spec : {M : Type 1} → statement M
 put-spec =
     tie.close
     (tie.spec
-    (λ c κs. search needs) (λ c. search needs) (λ c. search needs) (λ c. search needs) (λ c κs. search needs)
+    (λ c κs. search needs) (λ c. search needs) (λ c. search needs) (λ c κs. search needs) (λ c. search needs)
     (λ c κs. search needs) (λ c κs. search needs) (λ c. search needs) (λ c. search needs) (λ c. search needs)
     (λ c. search needs) (λ c. search needs)
     slice-write-slots-2

@@ -46,7 +46,7 @@ loop-holds c =
     )
 
 section-at-requires : tie.Need-section-at-requires Inv-loop μ-loop
-section-at-requires c κs = let l = c .before .loop in (search needs, (l .inv .10, l .inv .11))
+section-at-requires c κs = let l = c .before .before .before .before .loop in (search needs, (l .inv .10, l .inv .11))
 
 put-requires : tie.Need-put-requires Inv-loop μ-loop
 put-requires c κs =
@@ -61,7 +61,7 @@ loop-again c =
     let a = c .before .before .before .before .before .before .before .before .before .before .before .before .before .before .before .before .before .before .args in
     let x = a .xs .now in
     let y = a .ys .now in
-    let s = c .before .before .before .before .before .before .before .before .before .before .section-at .ensures in
+    let s = c .before .before .before .before .before .before .before .section-at .ensures in
     let p = c .before .before .before .before .put .ensures in
     let more = total-more x y (a .frame) (l .i) _ (l .inv .11) in
     let e : l .i + 1 - 1 ≡ l .i = omega arith in (
@@ -96,9 +96,10 @@ put-sections-spec =
     (tie.spec
     Inv-loop μ-loop
     (λ c. search needs)
-    loop-holds section-at-requires
+    loop-holds
     (λ c. search needs) (λ c. search needs) (λ c. search needs) (λ c. search needs)
     (λ c. search needs) (λ c. search needs) (λ c. search needs) (λ c. search needs)
+    section-at-requires
     put-requires
     (λ c. search needs) (λ c. search needs)
     loop-again
