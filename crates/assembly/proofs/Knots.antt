@@ -1,9 +1,10 @@
 -- 02, K9: what the three last slots of each record hold, as the records are left in buffers that have room for them.
 use Prim.Native.Nat.{ℕ, _+_, _-_, _*_, _≤_, _<_}
 use native.Mathlib.Omega.{arith}
-use mathlib.Core.Bool.{_&&_}
+use mathlib.Core.Bool.{true, _&&_}
 use mathlib.Core.List.{List}
 use mathlib.Core.Path.{_≡_, refl, sym, subst, _∙_}
+use borrow.Author.Tests.{eq-eqb}
 use lib.Dec.{eqb}
 use lib.Ieee.{Float}
 use lib.ListN.{length}
@@ -16,7 +17,7 @@ use Rattle.table.specs.Table.{at, totalAt}
 use Rattle.table.specs.declared.ends.Frame.{Frame}
 use Rattle.choice.specs.Totals.{StartsFrom}
 use Rattle.choice.proofs.Totals.{section-starts}
-use Rattle.assembly.specs.Knots.{KnotsAt}
+use Rattle.assembly.specs.Knots.{KnotsAt, HeldPrices}
 use Rattle.assembly.specs.Making.{tagsAfter, slotsAfter}
 use Rattle.assembly.specs.Sections.{periodAt, sectionAt}
 use Rattle.assembly.proofs.ReadBack.{slot-read-back, record-read-back}
@@ -46,6 +47,19 @@ module _ (x y : List Float) (frame : Frame) (i : ℕ) (slots : List Float) (l : 
     right = right-left;
     total = total-left;
   }
+
+-- a held section is worth its average wherever it is asked
+held-price : (x y : List Float) (frame : Frame) (q : Float) → frame .hold ≡ true → value (sectionAt x y frame (length x - 2)) q ≡ at y (length x - 2 + 1)
+unfolding sectionAt value
+held-price x y frame q h = rw (h, eq-eqb (length x - 2) (length x - 2) refl) refl
+
+pub held-left : (x y : List Float) (frame : Frame) (slots : List Float) → frame .hold ≡ true → 2 ≤ length x → slotCount * (length x - 1) ≤ length slots →
+    HeldPrices (length x - 2) y (slotsAfter 0 x y frame slots)
+held-left x y frame slots h low room =
+    let last : length x - 2 < length x - 1 = omega (arith, low) in (
+      left-left x y frame (length x - 2) slots last room ∙ held-price x y frame _ h,
+      right-left x y frame (length x - 2) slots last room ∙ held-price x y frame _ h,
+    )
 
 -- the total in a record is the one that the next record's section starts from
 pub total-carried : (x y : List Float) (frame : Frame) (tags : List ℕ) (slots : List Float) (i : ℕ) → KnotsAt x y frame tags slots i → (next : KnotsAt x y frame tags slots (i + 1)) →

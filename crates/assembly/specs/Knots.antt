@@ -4,6 +4,7 @@ use mathlib.Core.List.{List}
 use mathlib.Core.Path.{_≡_}
 use lib.Ieee.{Float}
 use Rattle.numbers.specs.Sizes.{slotCount}
+use Rattle.numbers.specs.Words.{_⊕_, _⊖_, _⊗_, zero}
 use Rattle.section.specs.Section.{value}
 use Rattle.section.specs.declared.section.Section.{Section}
 use Rattle.record.specs.Knots.{leftPrice, rightPrice, totalAfter}
@@ -27,3 +28,11 @@ pub record KnotsAt (x y : List Float) (frame : Frame) (tags : List ℕ) (slots :
 -- the tail's price and total stand in the record at place `last`
 abbrev pub TailInRecord : ℕ → List Float → Tail → Type 0
 TailInRecord last slots tail = (tail .value ≡ at slots (slotCount * last + rightPrice)) × (tail .total ≡ at slots (slotCount * last + totalAfter))
+
+-- a held section at place `last` has its average at both knots
+abbrev pub HeldPrices : ℕ → List Float → List Float → Type 0
+HeldPrices last y slots = (at slots (slotCount * last + leftPrice) ≡ at y (last + 1)) × (at slots (slotCount * last + rightPrice) ≡ at y (last + 1))
+
+-- the only record of two points: their average at both, and the total from +0.0 on
+abbrev pub TwoPoints : List Float → List Float → List Float → Type 0
+TwoPoints x y slots = (at slots leftPrice ≡ at y 1) × (at slots rightPrice ≡ at y 1) × (at slots totalAfter ≡ zero ⊕ at y 1 ⊗ (at x 1 ⊖ at x 0))

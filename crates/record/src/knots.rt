@@ -20,18 +20,18 @@ pub struct KnotPrices {
     pub right: f64,
 }
 
+fn both(left: f64, right: f64) -> KnotPrices
+    ensures { λ r. ⌜ r ≡ record { left = left; right = right } ⌝ }
+{
+    KnotPrices { left, right }
+}
+
 fn quadratic_prices(part: QuadraticPart, left: f64, right: f64) -> KnotPrices
     ensures { λ r. ⌜ r ≡ atBoth (quadraticPart.value part) left right ⌝ }
 {
     match part {
-        QuadraticPart::Quadratic(s) => KnotPrices {
-            left: s.value(left),
-            right: s.value(right),
-        },
-        QuadraticPart::QuadraticMin(s) => KnotPrices {
-            left: s.value(left),
-            right: s.value(right),
-        },
+        QuadraticPart::Quadratic(s) => both(s.value(left), s.value(right)),
+        QuadraticPart::QuadraticMin(s) => both(s.value(left), s.value(right)),
     }
 }
 
@@ -39,22 +39,10 @@ fn convex_prices(part: ConvexMonotonePart, left: f64, right: f64) -> KnotPrices
     ensures { λ r. ⌜ r ≡ atBoth (convexPart.value part) left right ⌝ }
 {
     match part {
-        ConvexMonotonePart::ConvexMonotone2(s) => KnotPrices {
-            left: s.value(left),
-            right: s.value(right),
-        },
-        ConvexMonotonePart::ConvexMonotone3(s) => KnotPrices {
-            left: s.value(left),
-            right: s.value(right),
-        },
-        ConvexMonotonePart::ConvexMonotone4(s) => KnotPrices {
-            left: s.value(left),
-            right: s.value(right),
-        },
-        ConvexMonotonePart::ConvexMonotone4Min(s) => KnotPrices {
-            left: s.value(left),
-            right: s.value(right),
-        },
+        ConvexMonotonePart::ConvexMonotone2(s) => both(s.value(left), s.value(right)),
+        ConvexMonotonePart::ConvexMonotone3(s) => both(s.value(left), s.value(right)),
+        ConvexMonotonePart::ConvexMonotone4(s) => both(s.value(left), s.value(right)),
+        ConvexMonotonePart::ConvexMonotone4Min(s) => both(s.value(left), s.value(right)),
     }
 }
 
@@ -63,48 +51,24 @@ pub fn knot_prices(section: Section, left: f64, right: f64) -> KnotPrices
     ensures { λ r. ⌜ r ≡ knotPrices section left right ⌝ }
 {
     match section {
-        Section::EverywhereConstant(s) => KnotPrices {
-            left: s.value(left),
-            right: s.value(right),
-        },
-        Section::ConstantGrad(s) => KnotPrices {
-            left: s.value(left),
-            right: s.value(right),
-        },
-        Section::ConvexMonotone2(s) => KnotPrices {
-            left: s.value(left),
-            right: s.value(right),
-        },
-        Section::ConvexMonotone3(s) => KnotPrices {
-            left: s.value(left),
-            right: s.value(right),
-        },
-        Section::ConvexMonotone4(s) => KnotPrices {
-            left: s.value(left),
-            right: s.value(right),
-        },
-        Section::ConvexMonotone4Min(s) => KnotPrices {
-            left: s.value(left),
-            right: s.value(right),
-        },
-        Section::Quadratic(s) => KnotPrices {
-            left: s.value(left),
-            right: s.value(right),
-        },
-        Section::QuadraticMin(s) => KnotPrices {
-            left: s.value(left),
-            right: s.value(right),
-        },
+        Section::EverywhereConstant(s) => both(s.value(left), s.value(right)),
+        Section::ConstantGrad(s) => both(s.value(left), s.value(right)),
+        Section::ConvexMonotone2(s) => both(s.value(left), s.value(right)),
+        Section::ConvexMonotone3(s) => both(s.value(left), s.value(right)),
+        Section::ConvexMonotone4(s) => both(s.value(left), s.value(right)),
+        Section::ConvexMonotone4Min(s) => both(s.value(left), s.value(right)),
+        Section::Quadratic(s) => both(s.value(left), s.value(right)),
+        Section::QuadraticMin(s) => both(s.value(left), s.value(right)),
         Section::Combination(s) => {
             let weight = s.quadraticity;
             let quadratic = s.quadratic_helper;
             let other = s.conv_mono_helper;
             let p = quadratic_prices(quadratic, left, right);
             let o = convex_prices(other, left, right);
-            KnotPrices {
-                left: weight * p.left + (1.0 - weight) * o.left,
-                right: weight * p.right + (1.0 - weight) * o.right,
-            }
+            both(
+                weight * p.left + (1.0 - weight) * o.left,
+                weight * p.right + (1.0 - weight) * o.right,
+            )
         }
     }
 }

@@ -9,7 +9,7 @@ unfolding value
 quadratic-prices-spec =
     tie.close
     (tie.spec
-    (λ c. search needs) (λ c κs. search needs) (λ c κs. search needs)
-    (λ c. search needs) (λ c κs. search needs) (λ c κs. search needs)
-    (λ c. rw (c .before .before .before .part .given .1, c .before .value .ensures, c .value2 .ensures))
-    (λ c. rw (c .before .before .before .part2 .given .1, c .before .value3 .ensures, c .value4 .ensures)))
+    (λ c. search needs) (λ c κs. search needs) (λ c κs. search needs) (λ c κs. search needs)
+    (λ c. search needs) (λ c κs. search needs) (λ c κs. search needs) (λ c κs. search needs)
+    (λ c. rw (c .before .before .before .before .part .given .1, c .both .ensures, c .before .before .value .ensures, c .before .value2 .ensures))
+    (λ c. rw (c .before .before .before .before .part2 .given .1, c .both2 .ensures, c .before .before .value3 .ensures, c .before .value4 .ensures)))
