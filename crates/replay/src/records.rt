@@ -1,20 +1,20 @@
-// A line `t TAG SLOT0 .. SLOT23 FNEXT`: a section's record, and the node it ends on.
+// A line `t TAG SLOT0 .. SLOT23 FNEXT`: a section's own fields, and the node it ends on.
 use crate::words::MOST;
-use numbers::SLOTS;
+use numbers::FIELDS;
 use record::reading::Found;
 use section::section::Section;
 
 // A section as its record alone: what is asked of it is asked of the section that is read back.
 pub(crate) struct Record {
     pub tag: u16,
-    pub slots: [f64; SLOTS],
+    pub slots: [f64; FIELDS],
 }
 
 // The record of no section: 0 is no section's tag.
 pub(crate) fn none() -> Record {
     Record {
         tag: 0,
-        slots: [0.0; SLOTS],
+        slots: [0.0; FIELDS],
     }
 }
 
@@ -28,13 +28,13 @@ fn wide(x: u16) -> u64 {
     x as u64
 }
 
-// Whether the slots are those that the line has behind its tag.
-fn same_slots(slots: &[f64], words: &[u64; MOST]) -> bool {
-    if slots.len() < SLOTS {
+// Whether the fields, which are the first slots, are those that the line has behind its tag.
+fn same_fields(slots: &[f64], words: &[u64; MOST]) -> bool {
+    if slots.len() < FIELDS {
         return false;
     }
     let mut i = 0;
-    while i < SLOTS {
+    while i < FIELDS {
         if numbers::to_bits(slots[i]) != words[i + 1] {
             return false;
         }
@@ -51,13 +51,13 @@ fn ends_on(tag: u16, slots: &[f64], node: u64) -> bool {
     }
 }
 
-// Whether a record is as the line tells. One that cannot be read back is not, whatever else it agrees in.
+// Whether a record's section is as the line tells. One that cannot be read back is not, whatever else it agrees in.
 pub(crate) fn agrees(tag: u16, slots: &[f64], words: &[u64; MOST]) -> bool {
     if wide(tag) != words[0] {
         return false;
     }
-    if !same_slots(slots, words) {
+    if !same_fields(slots, words) {
         return false;
     }
-    ends_on(tag, slots, words[SLOTS + 1])
+    ends_on(tag, slots, words[FIELDS + 1])
 }

@@ -1,16 +1,16 @@
--- `records::same_slots` is safe and ends: the place rises to the count of slots, and behind the tag there is a word for each.
+-- `records::same_fields` is safe and ends: the place rises to the count of fields, and behind the tag there is a word for each.
 use borrow.Author.Needs.{needs}
 use Prim.Native.Nat.{_≤_, _-_}
 use lib.ListN.{length}
-use Rattle.numbers.specs.Sizes.{slotCount}
-use Rattle.replay.proofs.records.same_slots.Statement.{statement}
-use Rattle.replay.proofs.records.same_slots.Tie as tie
+use Rattle.numbers.specs.Sizes.{fieldCount}
+use Rattle.replay.proofs.records.same_fields.Statement.{statement}
+use Rattle.replay.proofs.records.same_fields.Tie as tie
 
 abbrev Inv-loop : tie.InvT-loop
-Inv-loop slots words i₀ i = (slotCount ≤ length slots)
+Inv-loop slots words i₀ i = (fieldCount ≤ length slots)
 
 abbrev μ-loop : tie.MeasureT-loop
-μ-loop slots words i₀ i = slotCount - i
+μ-loop slots words i₀ i = fieldCount - i
 
 returns : tie.Need-returns Inv-loop μ-loop
 returns c = search needs
@@ -51,8 +51,8 @@ loop-again c = search needs
 returns-3 : tie.Need-returns-3 Inv-loop μ-loop
 returns-3 c = search needs
 
-pub same-slots-spec : {M : Type 1} → statement M
-same-slots-spec =
+pub same-fields-spec : {M : Type 1} → statement M
+same-fields-spec =
     tie.close
     (tie.spec
     Inv-loop
