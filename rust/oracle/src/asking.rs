@@ -1,7 +1,7 @@
 //! Requests and answers by lines of text; the grammar stands in the README.
 
 use crate::{Curve, Recipe, Record, Refusal, Seam, Section, Settings, words};
-use crate::{build_with, default_settings, grow, nodes, root, section};
+use crate::{build_with, default_settings, grow, knots, nodes, root, section};
 
 /// Answers requests, keeping the section and the curve made last.
 #[derive(Default)]
@@ -74,7 +74,7 @@ impl Asked {
         let seam = given.seam()?;
         given.end()?;
         let made = build_with(&settings, &x, &y, hold, seam);
-        Ok(self.keep(made, nodes(&settings, &x, &y, seam)))
+        Ok(self.keep(made, &settings, &x, &y, seam))
     }
 
     fn grow(&mut self, given: &mut Given) -> Result<String, Malformed> {
@@ -95,24 +95,32 @@ impl Asked {
             self.curve.as_ref(),
             final_size,
         );
-        Ok(self.keep(made, nodes(&settings, &x, &y, seam)))
+        Ok(self.keep(made, &settings, &x, &y, seam))
     }
 
-    /// Tells what was made and keeps it; a refusal leaves no curve.
-    fn keep(&mut self, made: Result<Curve, Refusal>, nodes: Result<Vec<f64>, Refusal>) -> String {
+    /// Tells what was made of a table, from a seam or not, and keeps it; a refusal leaves no curve.
+    fn keep(
+        &mut self,
+        made: Result<Curve, Refusal>,
+        settings: &Settings,
+        x: &[f64],
+        y: &[f64],
+        seam: Option<Seam>,
+    ) -> String {
         self.curve = None;
         let curve = match made {
             Ok(curve) => curve,
             Err(refusal) => return format!("b {:x} 0\n", refusal.number()),
         };
         let mut answer = format!("b 0 {:x}\n", curve.sections());
-        for place in 0..curve.sections() {
+        for (place, knots) in knots(settings, x, y, &curve).iter().enumerate() {
             answer += &record_line(&curve.record(place), curve.f_next(place));
+            answer += &knots_line(knots);
         }
         answer.push('e');
         words::push_floats(&mut answer, &curve.extrapolation());
         answer += "\nn";
-        let nodes = nodes.expect("a table that builds has nodes");
+        let nodes = nodes(settings, x, y, seam).expect("a table that builds has nodes");
         words::push_floats(&mut answer, &nodes);
         self.curve = Some(curve);
         answer + "\n"
@@ -152,6 +160,13 @@ pub fn record_line(record: &Record, f_next: f64) -> String {
     words::push(&mut line, record.tag.into());
     words::push_floats(&mut line, &record.slots);
     words::push_floats(&mut line, &[f_next]);
+    line + "\n"
+}
+
+/// A section's prices at its two knots, and the total after its period.
+fn knots_line(knots: &[f64; 3]) -> String {
+    let mut line = String::from("k");
+    words::push_floats(&mut line, knots);
     line + "\n"
 }
 

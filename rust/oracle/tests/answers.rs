@@ -43,7 +43,7 @@ fn every_line_keeps_the_format() {
             "r" => assert_eq!(count, 2),
             "s" => assert!((4..=17).contains(&count), "{line}"),
             "t" => assert_eq!(count, 26),
-            "m" | "x" | "e" => assert_eq!(count, 3),
+            "m" | "x" | "k" | "e" => assert_eq!(count, 3),
             // As many as 32 points have.
             "c" => assert!((6..=72).contains(&count), "{line}"),
             "g" => assert!((7..=71).contains(&count), "{line}"),
@@ -54,11 +54,14 @@ fn every_line_keeps_the_format() {
             _ => panic!("{line}"),
         }
         let follows = match letter {
-            "t" => ["s", "b", "t"].contains(&before),
+            "t" => ["s", "b", "k"].contains(&before),
             "b" => ["c", "g"].contains(&before),
-            "e" => before == "t",
+            "k" => before == "t",
+            "e" => before == "k",
             "n" => before == "e",
-            _ => !["s", "c", "g", "t", "e"].contains(&before) || (before, letter) == ("t", "x"),
+            _ => {
+                !["s", "c", "g", "t", "k", "e"].contains(&before) || (before, letter) == ("t", "x")
+            }
         };
         assert!(follows, "{letter} after {before}");
         before = letter;
@@ -91,6 +94,23 @@ fn told(lines: &str, letter: &str, place: usize) -> BTreeSet<u64> {
         .filter(|words: &Vec<&str>| words[0] == letter)
         .map(|words| words::read(words[place]).expect("a word"))
         .collect()
+}
+
+/// How many lines have a letter.
+fn lines_of(lines: &str, letter: char) -> usize {
+    let of_letter = lines.lines().filter(|line| line.starts_with(letter));
+    of_letter.count()
+}
+
+/// A section that is made by itself has no period, and so no knots.
+#[test]
+fn knots_are_told_of_every_section_of_a_curve() {
+    for part in [answers::curves(), answers::growth()] {
+        let sections = lines_of(&part.lines, 't');
+        assert!(sections > 0);
+        assert_eq!(lines_of(&part.lines, 'k'), sections);
+    }
+    assert_eq!(lines_of(&answers::sections().lines, 'k'), 0);
 }
 
 #[test]

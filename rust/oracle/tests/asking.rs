@@ -6,6 +6,7 @@ use oracle::asking::Asked;
 const ONE: &str = "3ff0000000000000";
 const TWO: &str = "4000000000000000";
 const THREE: &str = "4008000000000000";
+const FOUR: &str = "4010000000000000";
 
 /// p1, p2 and p3 as text.
 #[test]
@@ -15,16 +16,14 @@ fn a_build_and_its_queries() {
 
     let two = ask(format!("build 0 0 0 0 2 0 {TWO} 2 4022000000000000 {TWO}"));
     let lines: Vec<&str> = two.lines().collect();
-    assert_eq!(lines.len(), 4);
+    assert_eq!(lines.len(), 5);
     assert_eq!(lines[0], "b 0 1");
     assert!(lines[1].starts_with("t 100 0 0 "), "{}", lines[1]);
-    assert_eq!(lines[2], format!("e {TWO} 0 0"));
-    assert_eq!(lines[3], "n 0 0");
+    assert_eq!(lines[2], format!("k {TWO} {TWO} {FOUR}"));
+    assert_eq!(lines[3], format!("e {TWO} 0 0"));
+    assert_eq!(lines[4], "n 0 0");
     assert_eq!(ask(format!("query 0 {ONE}")), format!("q 0 {TWO} {TWO}\n"));
-    assert_eq!(
-        ask(format!("query 0 {TWO}")),
-        format!("q 0 {TWO} 4010000000000000\n")
-    );
+    assert_eq!(ask(format!("query 0 {TWO}")), format!("q 0 {TWO} {FOUR}\n"));
 
     let table = format!("3 0 {ONE} {TWO} 3 0 {ONE} {THREE}");
     let three = ask(format!("build 0 0 0 {ONE} {table}"));
@@ -65,6 +64,15 @@ fn growth_needs_the_curve_before() {
     assert!(first.starts_with("b 0 1\nt 100 "), "{first}");
     let second = asked.answer(&grow(3)).expect("a request");
     assert!(second.starts_with("b 0 2\nt 2000 "), "{second}");
+    // The knots are those of the table that is grown into, not of the one before.
+    let knots = second.lines().filter(|line| line.starts_with('k'));
+    let half = "3fe0000000000000";
+    let seven_halves = "400c000000000000";
+    let due = [
+        format!("k {half} {TWO} {ONE}"),
+        format!("k {TWO} {seven_halves} {FOUR}"),
+    ];
+    assert!(knots.eq(due), "{second}");
     assert_eq!(asked.answer("forget").as_deref(), Ok("f\n"));
     assert_eq!(asked.answer(&grow(3)).as_deref(), Ok("b 9 0\n"));
 }

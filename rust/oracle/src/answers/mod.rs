@@ -40,12 +40,12 @@ pub fn sections() -> Answers {
     sections::write()
 }
 
-/// The curves: lines `c`, `b`, `t`, `e`, `n` and `a`.
+/// The curves: lines `c`, `b`, `t`, `k`, `e`, `n` and `a`.
 pub fn curves() -> Answers {
     curves::write()
 }
 
-/// The growths: lines `g`, `b`, `t`, `e`, `n`, `a` and `f`, and some `c`.
+/// The growths: lines `g`, `b`, `t`, `k`, `e`, `n`, `a` and `f`, and some `c`.
 pub fn growth() -> Answers {
     growth::write()
 }
