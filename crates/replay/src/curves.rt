@@ -1,4 +1,4 @@
-// The lines that tell a curve: `b`, a `t` to each section, `e` and `n`, and then `a` for what it answers.
+// The lines that tell a curve: `b`, a `t` and a `k` to each section, `e` and `n`, and then `a` for what it answers.
 use crate::kept;
 use crate::kept::Kept;
 use crate::kept::Outcome;
@@ -9,6 +9,10 @@ use crate::words::MOST;
 use curve::curve::Curve;
 use numbers::SLOTS;
 use query::answer::QueryAnswer;
+use record::knots::LEFT_PRICE;
+use record::knots::RIGHT_PRICE;
+use record::knots::TOTAL_AFTER;
+use record::reader::record_slots;
 
 // A line `b REFUSAL SECTIONS`: whether the build or growth went as it tells.
 pub(crate) fn went(outcome: Outcome, words: &[u64; MOST]) -> bool {
@@ -29,26 +33,33 @@ pub(crate) fn went(outcome: Outcome, words: &[u64; MOST]) -> bool {
     }
 }
 
-fn record_at(tags: &[u16], slots: &[f64], at: usize, words: &[u64; MOST]) -> bool {
+// A line `t TAG SLOT0 .. SLOT23 FNEXT`: whether the section of the record at a place is as it tells.
+pub(crate) fn record_agrees(kept: Kept, at: usize, words: &[u64; MOST]) -> bool {
     if TAGS <= at {
         return false;
     }
-    if tags.len() <= at {
-        return false;
-    }
-    let from = SLOTS * at;
-    let end = from + SLOTS;
-    if slots.len() < end {
-        return false;
-    }
-    records::agrees(tags[at], &slots[from..end], words)
-}
-
-// A line `t TAG SLOT0 .. SLOT23 FNEXT`: whether the record at a place is as it tells.
-pub(crate) fn record_agrees(kept: Kept, at: usize, words: &[u64; MOST]) -> bool {
     let tags = kept.tags;
     let slots = kept.slots;
-    record_at(&tags, &slots, at, words)
+    records::agrees(tags[at], record_slots(kept.knots, &slots, at), words)
+}
+
+fn same_knots(record: &[f64], words: &[u64; MOST]) -> bool {
+    if record.len() < SLOTS {
+        return false;
+    }
+    if numbers::to_bits(record[LEFT_PRICE]) != words[0] {
+        return false;
+    }
+    if numbers::to_bits(record[RIGHT_PRICE]) != words[1] {
+        return false;
+    }
+    numbers::to_bits(record[TOTAL_AFTER]) == words[2]
+}
+
+// A line `k LEFT RIGHT TOTAL`: whether the prices at the knots and the total in the record at a place are as it tells.
+pub(crate) fn knots_agree(kept: Kept, at: usize, words: &[u64; MOST]) -> bool {
+    let slots = kept.slots;
+    same_knots(record_slots(kept.knots, &slots, at), words)
 }
 
 // A line `e VALUE TOTAL FROM`: whether the tail is as it says.

@@ -37,6 +37,9 @@ fn of_curve(letter: u8, words: &[u64; MOST], count: usize, state: State) -> Stat
     if letter == b'b' && count == 2 {
         return state.told(words);
     }
+    if letter == b'k' && count == 3 {
+        return state.knots(words);
+    }
     if letter == b'e' && count == 3 {
         return state.tail(words);
     }

@@ -17,13 +17,15 @@ use crate::words::MOST;
 use curve::curve::Curve;
 
 // What the next lines are about: a section whose record is not told yet, or that is asked; an outcome that is not told yet; a curve of which so many
-// records were told, one whose end was told too, or one that is told whole and is asked.
+// records were told, one of which the section in the next record was told too but not its knots, one whose end was told too, or one that is told whole
+// and is asked.
 pub(crate) enum Subject {
     Nothing,
     Made,
     ReadBack,
     Outcome,
     Curve(Curve, usize),
+    Record(Curve, usize),
     Ended(Curve),
     Whole(Curve),
 }
@@ -120,6 +122,7 @@ impl State {
             Subject::Curve(made, lines) => self.curve_record(made, lines, words),
             Subject::ReadBack => self.strange_line(),
             Subject::Outcome => self.strange_line(),
+            Subject::Record(_, _) => self.strange_line(),
             Subject::Ended(_) => self.strange_line(),
             Subject::Whole(_) => self.strange_line(),
             Subject::Nothing => self.strange_line(),
@@ -201,6 +204,23 @@ impl State {
         let kept = self.kept;
         self.with(
             seen.curve_record(kept.grown, curves::record_agrees(kept, lines, words)),
+            Subject::Record(made, lines),
+        )
+    }
+
+    pub(crate) fn knots(self, words: &[u64; MOST]) -> Self {
+        let subject = self.subject;
+        let Subject::Record(made, lines) = subject else {
+            return self.strange_line();
+        };
+        // A record past the last is never told. With this, one more can be counted.
+        if made.sections <= lines {
+            return self.strange_line();
+        }
+        let seen = self.seen;
+        let kept = self.kept;
+        self.with(
+            seen.curve_knots(kept.grown, curves::knots_agree(kept, lines, words)),
             Subject::Curve(made, lines + 1),
         )
     }

@@ -61,6 +61,7 @@ fn print_built(n: Curves) {
     print_count(b"builds refused ", n.refused);
     print_count(b"curves ", n.made);
     print_count(b"curve records ", n.records);
+    print_count(b"curve knots ", n.knots);
     print_count(b"curve queries ", n.queries);
 }
 
@@ -69,6 +70,7 @@ fn print_grown(n: Curves) {
     print_count(b"growths refused ", n.refused);
     print_count(b"grown curves ", n.made);
     print_count(b"grown records ", n.records);
+    print_count(b"grown knots ", n.knots);
     print_count(b"grown queries ", n.queries);
 }
 

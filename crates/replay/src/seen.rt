@@ -10,6 +10,7 @@ pub(crate) struct Curves {
     pub refused: u64,
     pub made: u64,
     pub records: u64,
+    pub knots: u64,
     pub queries: u64,
 }
 
@@ -66,6 +67,7 @@ impl Curves {
             refused: 0,
             made: 0,
             records: 0,
+            knots: 0,
             queries: 0,
         }
     }
@@ -86,6 +88,11 @@ impl Curves {
 
     fn record(mut self) -> Self {
         self.records = more(self.records);
+        self
+    }
+
+    fn knots(mut self) -> Self {
+        self.knots = more(self.knots);
         self
     }
 
@@ -203,6 +210,11 @@ impl Seen {
 
     pub(crate) fn curve_record(self, grown: bool, agrees: bool) -> Self {
         self.with_curves(grown, self.curves(grown).record())
+            .judged(agrees)
+    }
+
+    pub(crate) fn curve_knots(self, grown: bool, agrees: bool) -> Self {
+        self.with_curves(grown, self.curves(grown).knots())
             .judged(agrees)
     }
 
