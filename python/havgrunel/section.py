@@ -1,6 +1,7 @@
 """One section of a curve by itself."""
 
 import ctypes
+import math
 from array import array
 from dataclasses import dataclass
 from typing import Tuple
@@ -32,7 +33,8 @@ class Section:
     total       -- the running total after its period: what was traded from the curve's first knot up to x_next. It is where the next section starts,
                    whatever primitive(x_next) says of a period that lost its average
 
-    A price is infinite or no number where the formula gives that. Two sections are equal where they are the same, bit for bit.
+    A price is infinite or no number where the formula gives that. Two sections are equal where they are the same, bit for bit,
+    any NaN for any NaN.
     """
 
     tag: int
@@ -91,10 +93,11 @@ class Section:
             raise Refused(number)
         return answer[0], answer[1], answer[2]
 
-    # By their bits, since a price may be no number, which equals nothing.
+    # By their bits, since a price may be no number, which equals nothing. Any such price is as good as another.
 
     def _bits(self) -> Tuple[int, bytes]:
-        return self.tag, array("d", [*self.slots, self.x_prev, self.x_next]).tobytes()
+        numbers = (*self.slots, self.x_prev, self.x_next)
+        return self.tag, array("d", [x if x == x else math.nan for x in numbers]).tobytes()
 
     def __eq__(self, other: object) -> bool:
         return self._bits() == other._bits() if isinstance(other, Section) else NotImplemented

@@ -257,6 +257,12 @@ class Sections(unittest.TestCase):
         self.assertNotEqual(first[0], first[1])
         self.assertNotEqual(first[0], first[0].slots)
 
+    def test_any_nan_equals_any(self):
+        section = Curve(*FREE, Method.gas()).sections[1]
+        other = havgrunel.Section(section.tag, tuple(-x if x != x else x for x in section.slots), section.x_prev, section.x_next)
+        self.assertNotEqual(bits(section.slots), bits(other.slots))
+        self.assertEqual((section, hash(section)), (other, hash(other)))
+
 
 class KnotPrices(unittest.TestCase):
     """What a record has besides its section's fields: the prices at its two knots and the total after it."""
