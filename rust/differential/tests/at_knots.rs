@@ -1,10 +1,11 @@
 //! That the judge would see a library whose records say something wrong behind their sections' own numbers. What the library says is found
 //! right by the rule that is due, and wrong by each other rule, on tables made for it and among the cases that the program draws.
 
+mod drawn;
+
 use differential::at_knots::{Asked, Rule, own};
 use differential::case::{Case, Previous, Queries, Room, Sheets, Step, Table};
 use differential::judge::Judge;
-use differential::{draw, shrink};
 use havgrunel::Split;
 use oracle::Settings;
 
@@ -211,25 +212,6 @@ fn drawn_cases_see_each_wrong_record() {
     if !at_hand() {
         return;
     }
-    const CASES: u64 = 2000;
-    let rules = WRONG.iter().map(|(_, rule)| *rule);
-    let mut judges: Vec<Judge> = rules.map(Judge::at_knots_by).collect();
-    let mut seen = [None; WRONG.len()];
-    let mut right = Judge::default();
-    for number in 0..CASES {
-        let case = draw::case(1, number);
-        assert!(shrink::judged(&mut right, &case).is_ok(), "case {number}");
-        for (judge, seen) in judges.iter_mut().zip(&mut seen) {
-            if seen.is_none() && shrink::judged(judge, &case).is_err() {
-                *seen = Some(number);
-            }
-        }
-        if seen.iter().all(Option::is_some) {
-            println!("seen first in the cases {seen:?}");
-            return;
-        }
-    }
-    for ((name, _), seen) in WRONG.iter().zip(seen) {
-        assert!(seen.is_some(), "no case of {CASES} sees this: {name}");
-    }
+    let judge = |&(name, rule): &Wrong| (name, Judge::at_knots_by(rule));
+    drawn::each_is_seen(2000, WRONG.iter().map(judge).collect(), |_| true);
 }

@@ -1,10 +1,11 @@
 //! That the judge of the careful mode would see a wrong rule: what it finds right by the document's rule, it finds wrong by
 //! another, on tables made for it and among the cases that the program draws.
 
+mod drawn;
+
 use differential::careful::{Rule, in_period, touching};
 use differential::case::{Case, Previous, Queries, Room, Sheets, Single, Step, Table};
 use differential::judge::Judge;
-use differential::{draw, shrink};
 use havgrunel::{FIELDS, Split};
 use oracle::{Quadratic, Recipe, Settings};
 
@@ -179,24 +180,6 @@ fn drawn_cases_see_each_wrong_rule() {
     if !at_hand() {
         return;
     }
-    const CASES: u64 = 8000;
-    let mut judges: Vec<_> = WRONG.iter().map(|(_, rule)| Judge::by(*rule)).collect();
-    let mut seen = [None; WRONG.len()];
-    let mut right = Judge::default();
-    for number in 0..CASES {
-        let case = draw::case(1, number);
-        assert!(shrink::judged(&mut right, &case).is_ok(), "case {number}");
-        for (judge, seen) in judges.iter_mut().zip(&mut seen) {
-            if seen.is_none() && shrink::judged(judge, &case).is_err() {
-                *seen = Some(number);
-            }
-        }
-        if seen.iter().all(Option::is_some) {
-            println!("seen first in the cases {seen:?}");
-            return;
-        }
-    }
-    for ((name, _), seen) in WRONG.iter().zip(seen) {
-        assert!(seen.is_some(), "no case of {CASES} sees the rule {name}");
-    }
+    let judges = WRONG.iter().map(|&(name, rule)| (name, Judge::by(rule)));
+    drawn::each_is_seen(8000, judges.collect(), |_| true);
 }

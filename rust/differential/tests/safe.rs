@@ -8,12 +8,12 @@ macro_rules! wrong {
     };
 }
 
+mod drawn;
 mod wrong;
 
 use differential::case::{Case, Queries, Room};
 use differential::judge::Judge;
 use differential::safe::{RULE, Rule};
-use differential::{draw, shrink};
 use havgrunel::Split;
 use wrong::{growing, in_sheets, table, whole, wrong};
 
@@ -125,29 +125,9 @@ fn drawn_cases_see_each_wrong_rule() {
     if !at_hand() {
         return;
     }
-    const CASES: u64 = 8000;
     let wrong = wrong();
-    let rules = wrong.iter().map(|(_, rule, _)| *rule);
-    let mut judges: Vec<Judge> = rules.map(Judge::safely_by).collect();
-    let mut seen = vec![None; wrong.len()];
-    let mut right = Judge::default();
-    for number in 0..CASES {
-        let case = draw::case(1, number);
-        if !is_safe(&case) {
-            continue;
-        }
-        assert!(shrink::judged(&mut right, &case).is_ok(), "case {number}");
-        for (judge, seen) in judges.iter_mut().zip(&mut seen) {
-            if seen.is_none() && shrink::judged(judge, &case).is_err() {
-                *seen = Some(number);
-            }
-        }
-        if seen.iter().all(Option::is_some) {
-            println!("seen first in the cases {seen:?}");
-            return;
-        }
-    }
-    for ((name, ..), seen) in wrong.iter().zip(seen) {
-        assert!(seen.is_some(), "no case of {CASES} sees the rule: {name}");
-    }
+    let judges = wrong
+        .iter()
+        .map(|(name, rule, _)| (*name, Judge::safely_by(*rule)));
+    drawn::each_is_seen(8000, judges.collect(), is_safe);
 }
