@@ -3,6 +3,7 @@ pub mod Covering
 pub mod Enough
 pub mod Room
 pub mod Sides
+pub mod ByParts
 pub mod Unique
 pub mod Above
 pub mod Answers

@@ -10,6 +10,9 @@ use Rattle.query.proofs.many.values.Reads as values
 use Rattle.query.proofs.many.primitives.Reads as primitives
 use Rattle.query.proofs.single.value.Reads as value
 use Rattle.query.proofs.single.primitive.Reads as primitive
+use Rattle.query.proofs.strip.strip.Reads as strip
+use Rattle.query.proofs.strips.strips.Reads as strips
+use Rattle.query.proofs.strips.run.Reads as run
 
 pub curve-with-unique : OneAnswer curve-with.Post
 curve-with-unique κ a r₁ r₂ s t p q = p ∙ sym q
@@ -34,3 +37,12 @@ primitive-unique κ a r₁ r₂ s t p q = p ∙ sym q
 
 pub curve-verdict-unique : OneAnswer curve-verdict.Post
 curve-verdict-unique κ a r₁ r₂ s t p q = p ∙ sym q
+
+pub strip-unique : OneAnswer strip.Post
+strip-unique κ a r₁ r₂ s t p q = p ∙ sym q
+
+pub strips-unique : OneOutcome strips.Post (λ κ r s. let (_, (_, (_, (_, (_, (_, (out, _))))))) = s in pair r (now out))
+strips-unique κ a r₁ r₂ s t p q = p ∙ sym q
+
+pub run-unique : OneOutcome run.Post (λ κ r s. let (_, (_, (_, (_, (_, (out, _)))))) = s in pair r (now out))
+run-unique κ a r₁ r₂ s t p q = p ∙ sym q

@@ -1,3 +1,4 @@
 pub mod Many
 pub mod Query
 pub mod Steps
+pub mod Strip

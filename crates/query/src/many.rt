@@ -60,7 +60,7 @@ fn answers_legally(xs: &[f64], curve: Curve, tags: &[u16], slots: &[f64], q: f64
 }
 
 // Refusals 12, 13 and 15 of one query. `legal` says that every record is known to be.
-fn query_verdict(
+pub(crate) fn query_verdict(
     xs: &[f64],
     curve: Curve,
     tags: &[u16],
@@ -88,7 +88,7 @@ fn query_verdict(
 }
 
 // Where the queries are as many as the points, looking at every record once is less work than looking at one for each query.
-fn known_legal(xs: &[f64], tags: &[u16], slots: &[f64], queries: usize) -> bool
+pub(crate) fn known_legal(xs: &[f64], tags: &[u16], slots: &[f64], queries: usize) -> bool
     requires { ⌜ (first (curveTests (now xs) (length (now tags)) (length (now slots))) ≡ Accepted) ⌝ }
     ensures { λ r. ⌜ (r ≡ true → allBelow (length (now (xs .entry)) - 1) (λ i. isSection (recordAt (now (tags .entry)) (now (slots .entry)) i)) ≡ true) ⌝ }
 {

@@ -19,7 +19,7 @@ ghost use Rattle.query.specs.Query.{curveTests, covering, coveredAt, ask
 ghost use Rattle.query.specs.Steps.{figure};
 
 // What the section that covers a query answers. From the last knot on no record is read.
-fn covering_number(
+pub(crate) fn covering_number(
     wanted: Wanted,
     xs: &[f64],
     curve: Curve,

@@ -1,9 +1,9 @@
--- 01, Refusal numbers
+-- 01, Refusal numbers. 02, K1: 18.
 use Prim.Native.Nat.{ℕ}
 use mathlib.Core.Bool.{Bool, cond}
 use mathlib.Core.List.{List, [], _∷_}
 use Rattle.refusal.specs.declared.Refusal.{Refusal}
-use Rattle.refusal.specs.declared.Refusal.the-variants.{LengthsDiffer, MonotonicityOutside, QuadraticityOutside, TooFewPoints, KnotNotFinite, AverageNotFinite, KnotsNotRising, SeamTooLong, NoPreviousCurve, TooManyPoints, BufferTooShort, QueryNotANumber, QueryOutside, DerivativeAsked, RecordNotLegal, NoGivenNode, OrderMalformed, CutsNotInner, AverageBelowZero, SplitUnknown}
+use Rattle.refusal.specs.declared.Refusal.the-variants.{LengthsDiffer, MonotonicityOutside, QuadraticityOutside, TooFewPoints, KnotNotFinite, AverageNotFinite, KnotsNotRising, SeamTooLong, NoPreviousCurve, TooManyPoints, BufferTooShort, QueryNotANumber, QueryOutside, DerivativeAsked, RecordNotLegal, NoGivenNode, OrderMalformed, StripEndsNotRising, CutsNotInner, AverageBelowZero, SplitUnknown}
 use Rattle.refusal.specs.declared.Verdict.{Verdict}
 use Rattle.refusal.specs.declared.Verdict.the-variants.{Accepted, Refused}
 
@@ -25,6 +25,7 @@ number DerivativeAsked = 14
 number RecordNotLegal = 15
 number NoGivenNode = 16
 number OrderMalformed = 17
+number StripEndsNotRising = 18
 number CutsNotInner = 28
 number AverageBelowZero = 29
 number SplitUnknown = 30

@@ -1,0 +1,26 @@
+-- `strip::strip` meets its contract: a curve that is refused refuses the strip, and else its two ends are asked.
+use mathlib.Core.Path.{sym, _∙_}
+use borrow.Author.Needs.{needs}
+use Rattle.query.proofs.ByParts.{by-totals, curve-refused}
+use Rattle.query.proofs.strip.strip.Statement.{statement}
+use Rattle.query.proofs.strip.strip.Tie as tie
+
+returns : tie.Need-returns
+returns c =
+    let a = c .before .before .before .before .before .before .before .args in
+    curve-refused (a .xs .now) (a .curve) (a .tags .now) (a .slots .now) (a .a) (a .b) _ (sym (c .before .before .before .curve-verdict .ensures) ∙ c .before .refusal .given .1)
+
+returns-2 : tie.Need-returns-2
+returns-2 c =
+    let a = c .before .before .before .before .before .before .before .before .before .args in
+    by-totals (a .xs .now) (a .curve) (a .tags .now) (a .slots .now) (a .a) (a .b) _ _ _ (c .before .before .total-to .ensures) (c .before .total-to2 .ensures) (c .strip-of .ensures)
+
+pub strip-spec : {M : Type 1} → statement M
+strip-spec =
+    tie.close
+    (tie.spec
+    (λ c κs. search needs) (λ c. search needs) (λ c. search needs)
+    (λ c κs. sym (c .before .before .curve-verdict .ensures) ∙ c .enum-told .given .1)
+    (λ c κs. sym (c .before .before .before .curve-verdict .ensures) ∙ c .before .enum-told .given .1)
+    (λ c κs. search needs)
+    returns returns-2)
