@@ -17,3 +17,6 @@ pub mod Bounds
 pub mod Monotone
 pub mod Low
 pub mod Ratios
+pub mod Sided
+pub mod Zeros
+pub mod Totals

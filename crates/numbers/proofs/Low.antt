@@ -31,7 +31,7 @@ small-fits j h =
 pub small-low : (j : ℕ) → Low (suc j) (small j)
 small-low j = record { part = 1; power = negsuc j; is = refl; size = simp mul-one (le-refl _) }
 
-round-low : (j a c : ℕ) → 0 < c → j < 1074 → c ≤ 2 ^ suc j * a → le (small j) (round binary64 false a c) ≡ true
+pub round-low : (j a c : ℕ) → 0 < c → j < 1074 → c ≤ 2 ^ suc j * a → le (small j) (round binary64 false a c) ≡ true
 round-low j a c C J h =
     own-below false 1 (negsuc j) (small-fits j J) (rounds false a a 0 c refl refl) C (simp (one-mul, zero-mul, add-zero) (rw (mul-comm a (2 ^ suc j)) h))
 

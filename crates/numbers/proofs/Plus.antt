@@ -37,7 +37,7 @@ units-sign f s q k = by (ltb (q * 2 ^ k) (2 ^ (low f + suc (emax f))))
     by true = odd-sign (suc (prec f)) s q k (low f)
     by false = refl
 
-round-sign : (s : Bool) (a b : ℕ) → isPlus (round binary64 s a b) ≡ not s
+pub round-sign : (s : Bool) (a b : ℕ) → isPlus (round binary64 s a b) ≡ not s
 round-sign s a b = ap isPlus (round-is binary64 s a b) ∙ units-sign binary64 s _ _
 
 -- a test between a NaN and an infinity without a minus sign

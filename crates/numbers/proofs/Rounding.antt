@@ -105,7 +105,7 @@ shift f (negsuc k) h =
     record { by = low f - suc k; same = simp one-mul (ap (λ (i : ℕ). 2 ^ i) (sym (back (low f) (suc k) l)) ∙ pow-add 2 (low f - suc k) (suc k)) }
 
 -- so rounding leaves the value of a finite number that fits as it is
-own-value : (f : Format) (s : Bool) (m : ℕ) (e : ℤ) → T (fits f (fin s m e)) → HasValue (round f s (m * up e) (down e)) s (m * up e) (down e)
+pub own-value : (f : Format) (s : Bool) (m : ℕ) (e : ℤ) → T (fits f (fin s m e)) → HasValue (round f s (m * up e) (down e)) s (m * up e) (down e)
 unfolding fits
 own-value f s nat.zero e h = round-exact f s (0 * up e) (down e) 0 0 (down-pos e) (pow-pos (prec f)) (pow-pos (low f + suc (emax f))) (simp zero-mul)
 own-value f s (suc m) e h =
