@@ -17,7 +17,7 @@ use Rattle.convex.specs.ConvexMonotone4 as cm4
 use Rattle.convex.specs.ConvexMonotone4Min as cm4min
 
 -- the square of what is at least 2 ^ -21
-square : {x : Float} → Within 2 x → Low 21 x → Low 42 (x ⊗ x)
+pub square : {x : Float} → Within 2 x → Low 21 x → Low 42 (x ⊗ x)
 square w l = product-low 41 l l (within-finite (product-within w w tt)) refl (lit< tt)
 
 module _ (x0 x1 P N y eta total x : Float) (wP : Within 153 P) (wN : Within 153 N) (wy : Within 150 y) (at : Within 0 ((x ⊖ x0) ⊘ (x1 ⊖ x0))) where
@@ -43,7 +43,7 @@ pub record Inner (eta : Float) : Type 0 where
   pub low : Low 21 eta
   pub rest-low : Low 21 (one ⊖ eta)
 
-half-inner : Inner half
+pub half-inner : Inner half
 unfolding ofBits sub
 half-inner = record {
   within = half-within;
@@ -72,7 +72,7 @@ module _ (s : ConvexMonotone4) (inner : Inner (s .eta4)) (wy : Within 158 (s .«
       wider (sum-within (sum-within wy wa tt) bent tt) tt
 
 -- the weighted middle of the two nodes
-middle : {eta P N : Float} → Within 0 eta → Within 159 P → Within 159 N → Within 161 (eta ⊗ P ⊕ (one ⊖ eta) ⊗ N)
+pub middle : {eta P N : Float} → Within 0 eta → Within 159 P → Within 159 N → Within 161 (eta ⊗ P ⊕ (one ⊖ eta) ⊗ N)
 middle we wP wN = sum-within (product-within we wP tt) (product-within (difference-within one-within we tt) wN tt) tt
 
 module _ (x0 x1 y total x : Float) (wy : Within 150 y) (at : Within 0 ((x ⊖ x0) ⊘ (x1 ⊖ x0))) where
