@@ -23,10 +23,10 @@ use Rattle.quadratic.specs.declared.quadratic_min.QuadraticMin.{Quadrati
 
 -- a parabola with these ends and this average, at a place that may lie far outside the period
 module _ {F G y v : Float} (wF : Within 152 F) (wG : Within 152 G) (wy : Within 153 y) (wv : Within 42 v) where
-  a-within : Within 157 («a_of» F G y)
+  pub a-within : Within 157 («a_of» F G y)
   a-within = difference-within (sum-within (product-within three-within wF tt) (product-within three-within wG tt) tt) (product-within six-within wy tt) tt
 
-  b-within : Within 157 («b_of» F G y)
+  pub b-within : Within 157 («b_of» F G y)
   b-within = neg-within (difference-within (sum-within (product-within four-within wF tt) (product-within two-within wG tt) tt) (product-within six-within wy tt) tt)
 
   squared : Within 241 («a_of» F G y ⊗ v ⊗ v)

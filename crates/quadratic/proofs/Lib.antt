@@ -7,3 +7,4 @@ pub mod InPeriod
 pub mod Beyond
 pub mod Safe
 pub mod Finite
+pub mod Starts
