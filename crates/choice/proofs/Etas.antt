@@ -42,7 +42,7 @@ record Between (eta : Float) : Type 0 where
   low : le (small 20) eta ≡ true
   high : le eta highest ≡ true
 
-abbrev InUnit : Float → Type 0
+abbrev pub InUnit : Float → Type 0
 InUnit x = (le words.zero x ≡ true) × (le x one ≡ true)
 
 zero-minus : le (neg words.zero) words.zero ≡ true
@@ -201,16 +201,19 @@ module _ (method : ConvexMonotone) (from-zero : le words.zero (method .monotonic
           (sum-mono N (neg P) (two ⊗ P) finite-N (le-on (neg P) words.zero (two ⊗ P) minus-P' twice-P'))
           (difference-below (lt-le N Z words.zero finite-N Z-finite (within-finite zero-within) h Z-high))
 
-    pub second-eta : inSecond P N ≡ true → lt ((N ⊕ two ⊗ P) ⊘ (N ⊖ P)) (b2 method) ≡ true
-        → Within 0 ((N ⊕ two ⊗ P) ⊘ (N ⊖ P)) × Low 21 (one ⊖ (N ⊕ two ⊗ P) ⊘ (N ⊖ P))
+    pub second-unit : inSecond P N ≡ true → InUnit ((N ⊕ two ⊗ P) ⊘ (N ⊖ P))
     unfolding inSecond
-    second-eta region h =
-        let eta = (N ⊕ two ⊗ P) ⊘ (N ⊖ P) in
-        let r : InUnit eta =
+    second-unit region =
         ⊎-elim
         (λ k. let q = and-split (lt P words.zero) (lt Z N) k in second-rising (q .0) (q .1))
         (λ k. let q = and-split (lt words.zero P) (lt N Z) k in second-falling (q .0) (q .1))
-        (or-some (lt P words.zero && lt Z N) (lt words.zero P && lt N Z) region) in
+        (or-some (lt P words.zero && lt Z N) (lt words.zero P && lt N Z) region)
+
+    pub second-eta : inSecond P N ≡ true → lt ((N ⊕ two ⊗ P) ⊘ (N ⊖ P)) (b2 method) ≡ true
+        → Within 0 ((N ⊕ two ⊗ P) ⊘ (N ⊖ P)) × Low 21 (one ⊖ (N ⊕ two ⊗ P) ⊘ (N ⊖ P))
+    second-eta region h =
+        let eta = (N ⊕ two ⊗ P) ⊘ (N ⊖ P) in
+        let r = second-unit region in
         let w = unit-within eta (r .0) (r .1) in
         (w, rest-low w (le-on eta (b2 method) highest (le-of-below eta (b2 method) h) (b2-between .high)))
 

@@ -8,3 +8,4 @@ pub mod Safe
 pub mod Totals
 pub mod Etas
 pub mod Finite
+pub mod Starts

@@ -5,3 +5,4 @@ pub mod Regions
 pub mod Careful
 pub mod Totals
 pub mod Steps
+pub mod Starts

@@ -1,0 +1,44 @@
+-- 02, K9: whether a section is split, and the total that one which is not gives back at its own left knot.
+use mathlib.Core.Bool.{Bool, false, _||_}
+use lib.Ieee.{Float}
+use Rattle.section.specs.Combination as combination
+use Rattle.section.specs.declared.quadratic_part.QuadraticPart.{QuadraticPart}
+use Rattle.section.specs.declared.quadratic_part.QuadraticPart.the-variants as quadratic
+use Rattle.section.specs.declared.convex_monotone_part.ConvexMonotonePart.{ConvexMonotonePart}
+use Rattle.section.specs.declared.convex_monotone_part.ConvexMonotonePart.the-variants as convex
+use Rattle.section.specs.declared.section.Section.{Section}
+use Rattle.section.specs.declared.section.Section.the-variants as section
+
+-- a Min kind in it is split
+abbrev pub quadraticSplit : QuadraticPart → Bool
+quadraticSplit (quadratic.Quadratic s) = false
+quadraticSplit (quadratic.QuadraticMin s) = s .«split_region»
+
+abbrev pub convexSplit : ConvexMonotonePart → Bool
+convexSplit (convex.ConvexMonotone2 s) = false
+convexSplit (convex.ConvexMonotone3 s) = false
+convexSplit (convex.ConvexMonotone4 s) = false
+convexSplit (convex.ConvexMonotone4Min s) = s .«split_region»
+
+abbrev pub splitIn : Section → Bool
+splitIn (section.EverywhereConstant s) = false
+splitIn (section.ConstantGrad s) = false
+splitIn (section.ConvexMonotone2 s) = false
+splitIn (section.ConvexMonotone3 s) = false
+splitIn (section.ConvexMonotone4 s) = false
+splitIn (section.ConvexMonotone4Min s) = s .«split_region»
+splitIn (section.Quadratic s) = false
+splitIn (section.QuadraticMin s) = s .«split_region»
+splitIn (section.Combination s) = quadraticSplit (s .«quadratic_helper») || convexSplit (s .«conv_mono_helper»)
+
+-- the total that it was handed; a combination weighs it against itself, and that rounds
+abbrev pub startOf : Float → Section → Float
+startOf total (section.EverywhereConstant s) = total
+startOf total (section.ConstantGrad s) = total
+startOf total (section.ConvexMonotone2 s) = total
+startOf total (section.ConvexMonotone3 s) = total
+startOf total (section.ConvexMonotone4 s) = total
+startOf total (section.ConvexMonotone4Min s) = total
+startOf total (section.Quadratic s) = total
+startOf total (section.QuadraticMin s) = total
+startOf total (section.Combination s) = combination.weighted s total total
