@@ -69,10 +69,10 @@ at-most-highest w = rw (w .is) (at-most-le (w .sign) (w .part) (w .power) false 
     by false = simp (mul-one, one-mul, zero-mul, add-zero) (w .size)
 
 -- ---- the length of a period, and its share in the two that meet at a knot
-record Length (d : Float) : Type 0 where
-  within : Within 400 d
-  low : Low 400 d
-  fit : T (fits binary64 d)
+pub record Length (d : Float) : Type 0 where
+  pub within : Within 400 d
+  pub low : Low 400 d
+  pub fit : T (fits binary64 d)
 
 length-of : (a b : Float) → le shortest (b ⊖ a) ≡ true → le (b ⊖ a) longest ≡ true → Length (b ⊖ a)
 length-of a b h l = record { within = length-within (b ⊖ a) h l; low = length-from (b ⊖ a) h l; fit = sub-fits binary64 b a }
@@ -80,7 +80,7 @@ length-of a b h l = record { within = length-within (b ⊖ a) h l; low = length-
 from-zero : {d : Float} → Length d → le zero d ≡ true
 from-zero {d} a = le-of-below zero d (low-above (a .low))
 
-shares : {d p : Float} → Length d → Length p → Within 0 (d ⊘ (d ⊕ p)) × Within 0 (p ⊘ (d ⊕ p))
+pub shares : {d p : Float} → Length d → Length p → Within 0 (d ⊘ (d ⊕ p)) × Within 0 (p ⊘ (d ⊕ p))
 shares {d} {p} a b = (share d (from-zero a) first, share p (from-zero b) (rw (sum-comm d p) (sum-not-below p d (b .fit) (within-finite (b .within)) (from-zero a))))
   where
     both : finite (d ⊕ p) ≡ true
@@ -92,13 +92,13 @@ shares {d} {p} a b = (share d (from-zero a) first, share p (from-zero b) (rw (su
     share : (c : Float) → le zero c ≡ true → le c (d ⊕ p) ≡ true → Within 0 (c ⊘ (d ⊕ p))
     share c z l = let r = ratio c (d ⊕ p) both z l (low-above (low-up (d ⊕ p) (a .low) first both)) in unit-within (c ⊘ (d ⊕ p)) (r .0) (r .1)
 
-outer-within : (positive : Bool) (y f : Float) → Within 150 y → Within 151 f → Within 152 (outer positive y f)
+pub outer-within : (positive : Bool) (y f : Float) → Within 150 y → Within 151 f → Within 152 (outer positive y f)
 outer-within positive y f v w =
     let g = threeHalves ⊗ y ⊖ half ⊗ f in
     of-both (Within 152) (positive && lt g zero) zero g (wider zero-within tt) (difference-within (product-within threeHalves-within v tt) (product-within half-within w tt) tt)
 
 -- a place that is neither the first nor the last
-inside : (i n : ℕ) → i < n → eqb i 0 ≡ false → eqb i (n - 1) ≡ false → (0 < i) × (i < n - 1)
+pub inside : (i n : ℕ) → i < n → eqb i 0 ≡ false → eqb i (n - 1) ≡ false → (0 < i) × (i < n - 1)
 inside i n l p q = (
   ⊎-elim (λ (e : i ≡ 0). absurd (eqb-false i 0 p e)) (λ (h : 0 < i). h) (eq-zero-or-pos i),
   ⊎-elim (λ (e : i ≡ n - 1). absurd (eqb-false i (n - 1) q e)) (λ (h : i < n - 1). h) (eq-or-lt-of-le (omega (arith, l))),

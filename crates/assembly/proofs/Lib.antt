@@ -7,3 +7,4 @@ pub mod Unique
 pub mod InNumbers
 pub mod Careful
 pub mod Finite
+pub mod Starts

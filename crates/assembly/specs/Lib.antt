@@ -3,3 +3,4 @@ pub mod Making
 pub mod Steps
 pub mod Careful
 pub mod Knots
+pub mod Starts

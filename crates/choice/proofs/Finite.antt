@@ -88,7 +88,7 @@ longest-within : Within 400 longest
 unfolding ofBits
 longest-within = record { sign = false; part = 1; power = pos 400; is = refl; size = lit≤ tt }
 
-shortest-low : Low 400 shortest
+pub shortest-low : Low 400 shortest
 unfolding ofBits
 shortest-low = record { part = 1; power = negsuc 399; is = refl; size = lit≤ tt }
 
