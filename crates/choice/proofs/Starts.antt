@@ -9,7 +9,7 @@ use Rattle.numbers.proofs.Ways.{of-both, of-each, or-none}
 use Rattle.numbers.proofs.Bounds.{Within, Low, sum-within, difference-within, product-within, quotient-within}
 use Rattle.numbers.proofs.Ratios.{zero-within, half-within, self-less}
 use Rattle.numbers.proofs.Zeros.{Zero, zero-zero, zero-small, zero-product, quotient-zero}
-use Rattle.numbers.proofs.Totals.{Total, total-stays}
+use Rattle.numbers.proofs.Totals.{Total, AtLeft, total-stays}
 use Rattle.convex.proofs.Finite.{Inner}
 use Rattle.convex.proofs.Starts as convex-starts
 use Rattle.quadratic.proofs.Starts as quadratic-starts
@@ -98,8 +98,8 @@ module _ (method : ConvexMonotone) (period : Period) (from-zero : le zero (metho
   nowhere : Zero («x_prev» ⊖ «x_prev»)
   nowhere = rw (self-less «x_prev» (given .left)) zero-zero
 
-  at : Zero ((«x_prev» ⊖ «x_prev») ⊘ («x_next» ⊖ «x_prev»))
-  at = quotient-zero nowhere (given .long)
+  here : AtLeft «x_prev» «x_next» «prev_primitive»
+  here = record { length = given .length; place = quotient-zero nowhere (given .long); total = given .total }
 
   abbrev Given : Section → Type 0
   Given s = Gives «prev_primitive» «x_prev» s
@@ -114,15 +114,15 @@ module _ (method : ConvexMonotone) (period : Period) (from-zero : le zero (metho
 
   min-gives : (mode : Split) → minOf period mode .«split_region» ≡ false → part.primitive (part-kind.QuadraticMin (minOf period mode)) «x_prev» ≡ «prev_primitive»
   unfolding part.primitive
-  min-gives split.Original = quadratic-starts.new-starts «x_prev» «x_next» «f_average» «prev_primitive» (given .average) (given .length) (given .total) at «f_prev» «f_next» (given .prev) (given .next)
-  min-gives split.Careful = quadratic-starts.careful-starts «x_prev» «x_next» «f_average» «prev_primitive» (given .average) (given .length) (given .total) at «f_prev» «f_next» (given .prev) (given .next)
-  min-gives split.Safe = quadratic-starts.safe-starts «x_prev» «x_next» «f_average» «prev_primitive» (given .average) (given .length) (given .total) at «f_prev» «f_next» (given .prev) (given .next)
+  min-gives split.Original = quadratic-starts.new-starts (given .average) here (given .prev) (given .next)
+  min-gives split.Careful = quadratic-starts.careful-starts (given .average) here (given .prev) (given .next)
+  min-gives split.Safe = quadratic-starts.safe-starts (given .average) here (given .prev) (given .next)
 
   parabola-gives : (min : Bool) → QuadraticGives «prev_primitive» «x_prev» (made period (method .split) min)
   unfolding made part.primitive
   parabola-gives min =
       of-both (QuadraticGives «prev_primitive» «x_prev») min _ _ (min-gives (method .split))
-      (λ h. quadratic-starts.plain-starts «x_prev» «x_next» «f_average» «prev_primitive» (given .average) (given .length) (given .total) at «f_prev» «f_next» (given .prev) (given .next))
+      (λ h. quadratic-starts.plain-starts (given .average) here (given .prev) (given .next))
 
   abbrev ConvexGiven : ConvexMonotonePart → Type 0
   ConvexGiven k = ConvexGives «prev_primitive» «x_prev» k
@@ -131,8 +131,8 @@ module _ (method : ConvexMonotone) (period : Period) (from-zero : le zero (metho
   unfolding fourth fourthMin convex.primitive
   fourth-gives inner =
       of-both ConvexGiven «force_positive» _ _
-      (convex-starts.min-starts «x_prev» «x_next» «f_average» «prev_primitive» (given .average) (given .length) (given .total) at w-P w-N inner (safely method))
-      (λ h. convex-starts.fourth-starts «x_prev» «x_next» «f_average» «prev_primitive» (given .average) (given .length) (given .total) at w-P w-N inner)
+      (convex-starts.min-starts (given .average) here w-P w-N inner (safely method))
+      (λ h. convex-starts.fourth-starts (given .average) here w-P w-N inner)
 
   second-gives : inSecond P N ≡ true → ConvexGiven (second method period P N)
   unfolding second convex.primitive
@@ -140,7 +140,7 @@ module _ (method : ConvexMonotone) (period : Period) (from-zero : le zero (metho
       let eta = (N ⊕ two ⊗ P) ⊘ (N ⊖ P) in
       of-both ConvexGiven (lt eta (b2 method)) _ _
       (λ h.
-      convex-starts.second-starts «x_prev» «x_next» «f_average» «prev_primitive» (given .average) (given .length) (given .total) at P N eta w-P w-N
+      convex-starts.second-starts (given .average) here N eta w-P
       (second-unit method from-zero below-one P N w-P w-N (sub-fits binary64 «f_next» «f_average») region .0))
       (fourth-gives (b2-inner method from-zero below-one))
 
@@ -151,7 +151,7 @@ module _ (method : ConvexMonotone) (period : Period) (from-zero : le zero (metho
       of-each ConvexGiven (lt (b3 method) eta) _ _
       (λ k h.
       let e = third-eta method from-zero below-one P N w-P w-N (sub-fits binary64 «f_next» «f_average») region k in
-      convex-starts.third-starts «x_prev» «x_next» «f_average» «prev_primitive» (given .average) (given .length) (given .total) at P N eta w-P w-N (e .0) (e .1))
+      convex-starts.third-starts (given .average) here w-P w-N (e .0) (e .1))
       (λ k. fourth-gives (b3-inner method from-zero below-one))
 
   -- ---- the choice

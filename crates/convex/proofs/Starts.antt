@@ -11,7 +11,7 @@ use Rattle.numbers.proofs.Bounds.{Within, Low, wider, neg-within, sum-within, d
 use Rattle.numbers.proofs.Low.{low-above}
 use Rattle.numbers.proofs.Ratios.{zero-within, half-within, one-within, three-low}
 use Rattle.numbers.proofs.Zeros.{Zero, zero-small, product-zero, sum-zero, difference-zero, zero-most}
-use Rattle.numbers.proofs.Totals.{Total, total-stays}
+use Rattle.numbers.proofs.Totals.{AtLeft, total-stays}
 use Rattle.convex.specs.declared.convex_monotone4_min.ConvexMonotone4Min.{ConvexMonotone4Min}
 use Rattle.convex.specs.ConvexMonotone2 as cm2
 use Rattle.convex.specs.ConvexMonotone3 as cm3
@@ -24,31 +24,34 @@ before-low : {j : ℕ} {z eta : Float} → Zero z → Low j eta → le z eta ≡
 before-low {j} {z} {eta} v low = zero-most eta v (le-of-below zero eta (low-above low))
 
 -- a section from x0 to x1, at x0
-module _ (x0 x1 y total : Float) (wy : Within 150 y) (ws : Within 400 (x1 ⊖ x0)) (kept : Total total) (v : Zero ((x0 ⊖ x0) ⊘ (x1 ⊖ x0))) where
-  module _ (P N eta : Float) (wP : Within 153 P) (wN : Within 153 N) where
-    pub second-starts : le zero eta ≡ true → cm2.primitive (cm2.new x0 x1 P N y eta total) x0 ≡ total
-    unfolding cm2.primitive
-    second-starts h = rw (zero-most eta v h) (total-stays kept (product-zero ws (sum-zero (product-zero wy v) (product-zero wP v))))
+module _ {x0 x1 y total : Float} (wy : Within 150 y) (here : AtLeft x0 x1 total) where
+  v : Zero ((x0 ⊖ x0) ⊘ (x1 ⊖ x0))
+  v = here .place
 
-    pub third-starts : Within 2 eta → Low 21 eta → cm3.primitive (cm3.new x0 x1 P N y eta total) x0 ≡ total
-    unfolding cm3.primitive
-    third-starts we low =
-        let bend = quotient-within (difference-within wP wN tt) (square we low) tt in
-        let thrice = product-zero (zero-small (product-zero (zero-small (product-zero (quotient-within one-within three-low tt) v)) v)) v in
-        let twice = product-zero (zero-small (product-zero we v)) v in
-        let cubic = sum-zero (difference-zero thrice twice) (product-zero (product-within we we tt) v) in
-        rw (before-low v low) (total-stays kept (product-zero ws (sum-zero (sum-zero (product-zero wy v) (product-zero wN v)) (product-zero bend cubic))))
+  pub second-starts : {P : Float} (N eta : Float) → Within 153 P → le zero eta ≡ true → cm2.primitive (cm2.new x0 x1 P N y eta total) x0 ≡ total
+  unfolding cm2.primitive
+  second-starts N eta wP h = rw (zero-most eta v h) (total-stays (here .total) (product-zero (here .length) (sum-zero (product-zero wy v) (product-zero wP v))))
+
+  pub third-starts : {P N eta : Float} → Within 153 P → Within 153 N → Within 2 eta → Low 21 eta → cm3.primitive (cm3.new x0 x1 P N y eta total) x0 ≡ total
+  unfolding cm3.primitive
+  third-starts wP wN we low =
+      let bend = quotient-within (difference-within wP wN tt) (square we low) tt in
+      let thrice = product-zero (zero-small (product-zero (zero-small (product-zero (quotient-within one-within three-low tt) v)) v)) v in
+      let twice = product-zero (zero-small (product-zero we v)) v in
+      let cubic = sum-zero (difference-zero thrice twice) (product-zero (product-within we we tt) v) in
+      let bent = sum-zero (sum-zero (product-zero wy v) (product-zero wN v)) (product-zero bend cubic) in
+      rw (before-low v low) (total-stays (here .total) (product-zero (here .length) bent))
 
   pub fourth-starts : {P N eta : Float} → Within 153 P → Within 153 N → Inner eta → cm4.primitive (cm4.new x0 x1 P N y eta total) x0 ≡ total
   unfolding cm4.primitive
-  fourth-starts {P} {N} {eta} wP wN inner =
-      let wa = product-within (neg-within half-within) (middle (inner .within) (wider wP tt) (wider wN tt)) tt in
+  fourth-starts wP wN inner =
       let we = inner .within in
       let wz = zero-small v in
+      let wa = product-within (neg-within half-within) (middle we (wider wP tt) (wider wN tt)) tt in
       let bend = quotient-within (difference-within wP wa tt) (square (wider we tt) (inner .low)) tt in
       let third = product-within (product-within (quotient-within one-within three-low tt) wz tt) wz tt in
       let bent = product-within bend (sum-within (difference-within (product-within we we tt) (product-within we wz tt) tt) third tt) tt in
-      rw (before-low v (inner .low)) (total-stays kept (product-zero (product-within ws (sum-within (sum-within wy wa tt) bent tt) tt) v))
+      rw (before-low v (inner .low)) (total-stays (here .total) (product-zero (product-within (here .length) (sum-within (sum-within wy wa tt) bent tt) tt) v))
 
   -- the Min kind, where it is not split
   abbrev Starts : ConvexMonotone4Min → Type 0

@@ -17,17 +17,19 @@ use lib.Ieee.Exact.{HasValue}
 use lib.Ieee.Fits.{down-pos, up-pos, and-l, and-r, round-fits, add-fits}
 use lib.Ieee.Nearest.{div-same}
 use lib.Ieee.Scale.{round-same}
-use Rattle.numbers.specs.Words.{_⊕_, zero}
+use Rattle.numbers.specs.Words.{_⊕_, _⊖_, _⊘_, zero}
 use Rattle.numbers.proofs.Ways.{never, lt-or-le}
 use Rattle.numbers.proofs.Signs.{zero-exponent}
 use Rattle.numbers.proofs.Finite.{round-zero}
 use Rattle.numbers.proofs.AtMost.{le-on}
 use Rattle.numbers.proofs.Rounding.{own-value, round-neg}
 use Rattle.numbers.proofs.Plus.{isPlus, round-sign}
+use Rattle.numbers.proofs.Bounds.{Within}
 use Rattle.numbers.proofs.Low.{small, round-low}
 use Rattle.numbers.proofs.Ratios.{zero-level}
 use Rattle.numbers.proofs.Zeros.{Zero}
 
+-- -0.0
 unfoldable pub isMinusZero : Float → Bool
 isMinusZero nan = false
 isMinusZero (inf s) = false
@@ -37,12 +39,13 @@ isMinusZero (fin false m e) = false
 
 pub record Total (x : Float) : Type 0 where
   pub fit : T (fits binary64 x)
-  pub plus : isMinusZero x ≡ false
+  pub not-minus : isMinusZero x ≡ false
 
--- two numbers that fit and have one value are the same, since they have the same bits
+-- ---- a zero leaves it as it is
 scaled : (a b c d k : ℕ) → a * d ≡ c * b → a * k * d ≡ c * k * b
 scaled a b c d k h = mul-right-comm a k d ∙ ap (λ (i : ℕ). i * k) h ∙ mul-right-comm c b k
 
+-- two numbers that fit and have one value are the same, since they have the same bits
 same-bits : (s t : Bool) (m n : ℕ) (e d : ℤ) → t ≡ s → n * up d * down e ≡ m * up e * down d → toBits binary64 (fin t n d) ≡ toBits binary64 (fin s m e)
 unfolding toBits
 same-bits s t m n e d p q =
@@ -61,7 +64,7 @@ own s m e k K f =
     round-same binary64 s (m * up e * k) (down e * k) (m * up e) (down e) (mul-pos (down-pos e) K) (down-pos e) (simp (mul-assoc, mul-comm, mul-left-comm))
     ∙ one-value s m e (round binary64 s (m * up e) (down e)) f (round-fits binary64 s (m * up e) (down e)) (own-value binary64 s m e f)
 
--- a / c and nothing: the sign is that of a / c, or there is none
+-- a / c and nothing, where a is something: a / c with its own sign
 nothing-added : (s t : Bool) (a c : ℕ) → 0 < a → sum binary64 s a t 0 c ≡ round binary64 s a c
 unfolding sum
 nothing-added true true a c A = simp add-zero
@@ -69,6 +72,7 @@ nothing-added false false a c A = simp add-zero
 nothing-added false true a c A = simp (le-ltb a 0 nat.zero-le, sub-zero)
 nothing-added true false a c A = simp (le-ltb a 0 nat.zero-le, lt-ltb 0 a A, sub-zero)
 
+-- nothing and nothing, the first without a minus sign
 nothing-to-plus : (t : Bool) (c : ℕ) → 0 < c → sum binary64 false 0 t 0 c ≡ fin false 0 (pos 0)
 unfolding sum
 nothing-to-plus true c C = simp (le-ltb 0 0 nat.zero-le) (round-zero false c C)
@@ -83,14 +87,14 @@ stays-at s (suc m) e t d f h =
     (nothing-added s t (suc m * up e * down d) (down e * down d) (mul-pos (mul-pos (zero-lt-suc m) (up-pos e)) (down-pos d)) ∙ own s (suc m) e (down d) (down-pos d) f)
 
 pub total-stays : {x z : Float} → Total x → Zero z → x ⊕ z ≡ x
-total-stays {x} {z} total v = rw (v .is) (by x (total .fit) (total .plus))
+total-stays {x} {z} total v = rw (v .is) (by x (total .fit) (total .not-minus))
   where
     by : (x : Float) → T (fits binary64 x) → isMinusZero x ≡ false → x ⊕ fin (v .sign) 0 (v .power) ≡ x
     by nan f h = unfold add in refl
     by (inf s) f h = unfold add in refl
     by (fin s m e) f h = stays-at s m e (v .sign) (v .power) f h
 
--- ---- the sum of a total and a number that fits is a total: two numbers that fit differ by nothing, or by the smallest number at least
+-- ---- what it grows to is a total again: of two numbers that fit, the sum is nothing, or as large as the smallest number at least, and so not rounded to nothing
 -- the binary digits after the point
 abbrev fall : ℤ → ℕ
 fall (pos k) = 0
@@ -100,6 +104,7 @@ down-is : (e : ℤ) → down e ≡ 2 ^ fall e
 down-is (pos k) = refl
 down-is (negsuc k) = refl
 
+-- a number that fits has no more of them than the smallest number
 fine : (s : Bool) (m : ℕ) (e : ℤ) → T (fits binary64 (fin s m e)) → down e ≤ 2 ^ 1074
 unfolding fits
 fine s nat.zero e f = rw (zero-exponent e f) (lit≤ tt)
@@ -147,15 +152,15 @@ minus-of-low (fin true m e) h = refl
 minus-of-low (fin false (suc m) e) h = refl
 minus-of-low (fin false nat.zero e) h = never (le-on (small 1073) (fin false 0 e) zero h (zero-level false e .0)) refl
 
-plus-is-not : (x : Float) → isPlus x ≡ true → isMinusZero x ≡ false
+plus-not-minus : (x : Float) → isPlus x ≡ true → isMinusZero x ≡ false
 unfolding isPlus isMinusZero
-plus-is-not nan h = refl
-plus-is-not (inf s) h = refl
-plus-is-not (fin true m e) h = never h refl
-plus-is-not (fin false m e) h = refl
+plus-not-minus nan h = refl
+plus-not-minus (inf s) h = refl
+plus-not-minus (fin true m e) h = never h refl
+plus-not-minus (fin false m e) h = refl
 
 round-plus : (a c : ℕ) → isMinusZero (round binary64 false a c) ≡ false
-round-plus a c = plus-is-not (round binary64 false a c) (round-sign false a c)
+round-plus a c = plus-not-minus (round binary64 false a c) (round-sign false a c)
 
 round-minus : (k c g : ℕ) → 0 < c → c ≤ 2 ^ 1074 * g → g ≤ k → isMinusZero (round binary64 true k c) ≡ false
 round-minus k c g C h l =
@@ -172,16 +177,16 @@ module _ (a b c g p q : ℕ) (first : a ≡ p * g) (second : b ≡ q * g) (C : 0
   some : 0 < a → g ≤ a + b
   some l = let more = apart 0 p g (rw zero-mul (rw first at l)) in omega (arith, first, zero-mul g)
 
-  sum-is-not : (s t : Bool) → (s ≡ true → 0 < a) → isMinusZero (sum binary64 s a t b c) ≡ false
+  sum-of-common : (s t : Bool) → (s ≡ true → 0 < a) → isMinusZero (sum binary64 s a t b c) ≡ false
   unfolding sum
-  sum-is-not false false A = round-plus (a + b) c
-  sum-is-not true true A = round-minus (a + b) c g C large (some (A refl))
-  sum-is-not false true A =
+  sum-of-common false false A = round-plus (a + b) c
+  sum-of-common true true A = round-minus (a + b) c g C large (some (A refl))
+  sum-of-common false true A =
       ⊎-elim
       (λ (l : a < b). simp (lt-ltb a b l) (round-minus (b - a) c g C large (further l)))
       (λ (l : b ≤ a). simp (le-ltb a b l) (round-plus (a - b) c))
       (lt-or-le a b)
-  sum-is-not true false A =
+  sum-of-common true false A =
       ⊎-elim
       (λ (l : a < b). simp (lt-ltb a b l) (round-plus (b - a) c))
       (λ (l : b ≤ a).
@@ -191,6 +196,7 @@ module _ (a b c g p q : ℕ) (first : a ≡ p * g) (second : b ≡ q * g) (C : 0
       (lt-or-le b a))
       (lt-or-le a b)
 
+-- a number with a minus sign that is not -0.0 is something
 some-size : (s : Bool) (m : ℕ) (e : ℤ) (k : ℕ) → 0 < k → isMinusZero (fin s m e) ≡ false → s ≡ true → 0 < m * up e * k
 unfolding isMinusZero
 some-size s (suc m) e k K h p = mul-pos (mul-pos (zero-lt-suc m) (up-pos e)) K
@@ -204,22 +210,28 @@ same-infinity true false = refl
 same-infinity false true = refl
 same-infinity false false = refl
 
-sum-plus-zero : (x y : Float) → T (fits binary64 x) → T (fits binary64 y) → isMinusZero x ≡ false → isMinusZero (x ⊕ y) ≡ false
+sum-not-minus : (x y : Float) → T (fits binary64 x) → T (fits binary64 y) → isMinusZero x ≡ false → isMinusZero (x ⊕ y) ≡ false
 unfolding add isMinusZero
-sum-plus-zero nan y f h p = refl
-sum-plus-zero (inf s) nan f h p = refl
-sum-plus-zero (inf s) (inf t) f h p = same-infinity s t
-sum-plus-zero (inf s) (fin t n d) f h p = refl
-sum-plus-zero (fin s m e) nan f h p = refl
-sum-plus-zero (fin s m e) (inf t) f h p = refl
-sum-plus-zero (fin s m e) (fin t n d) f h p =
+sum-not-minus nan y f h p = refl
+sum-not-minus (inf s) nan f h p = refl
+sum-not-minus (inf s) (inf t) f h p = same-infinity s t
+sum-not-minus (inf s) (fin t n d) f h p = refl
+sum-not-minus (fin s m e) nan f h p = refl
+sum-not-minus (fin s m e) (inf t) f h p = refl
+sum-not-minus (fin s m e) (fin t n d) f h p =
     let k = common (m * up e) e (n * up d) d (fine s m e f) (fine t n d h) in
-    sum-is-not (m * up e * down d) (n * up d * down e) (down e * down d) (k .g) (k .p) (k .q) (k .first) (k .second) (mul-pos (down-pos e) (down-pos d)) (k .large) s t
+    sum-of-common (m * up e * down d) (n * up d * down e) (down e * down d) (k .g) (k .p) (k .q) (k .first) (k .second) (mul-pos (down-pos e) (down-pos d)) (k .large) s t
     (some-size s m e (down d) (down-pos d) p)
 
 pub total-more : {x : Float} (y : Float) → Total x → T (fits binary64 y) → Total (x ⊕ y)
-total-more {x} y total f = record { fit = add-fits binary64 x y; plus = sum-plus-zero x y (total .fit) f (total .plus) }
+total-more {x} y total f = record { fit = add-fits binary64 x y; not-minus = sum-not-minus x y (total .fit) f (total .not-minus) }
 
 pub zero-total : Total zero
 unfolding ofBits fits isMinusZero
-zero-total = record { fit = tt; plus = refl }
+zero-total = record { fit = tt; not-minus = refl }
+
+-- the left knot x0 of a period to x1 that is not too long, with the total before it: the place there is a zero
+pub record AtLeft (x0 x1 before : Float) : Type 0 where
+  pub length : Within 400 (x1 ⊖ x0)
+  pub place : Zero ((x0 ⊖ x0) ⊘ (x1 ⊖ x0))
+  pub total : Total before

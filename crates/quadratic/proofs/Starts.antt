@@ -3,12 +3,12 @@
 use mathlib.Core.Bool.{Bool, true, false, cond, _&&_}
 use mathlib.Core.Path.{_≡_, refl}
 use lib.Ieee.{Float, le}
-use Rattle.numbers.specs.Words.{_⊕_, _⊖_, _⊗_, _⊘_, narrow}
+use Rattle.numbers.specs.Words.{_⊖_, _⊘_, narrow}
 use Rattle.numbers.proofs.Ways.{never, of-both}
 use Rattle.numbers.proofs.Bounds.{Within, wider, sum-within, product-within, quotient-within}
 use Rattle.numbers.proofs.Ratios.{two-low, three-low}
-use Rattle.numbers.proofs.Zeros.{Zero, zero-small, product-zero}
-use Rattle.numbers.proofs.Totals.{Total, total-stays}
+use Rattle.numbers.proofs.Zeros.{zero-small, product-zero}
+use Rattle.numbers.proofs.Totals.{AtLeft, total-stays}
 use Rattle.quadratic.specs.Parabola.{«a_of», «b_of», under}
 use Rattle.quadratic.specs.Quadratic as quadratic
 use Rattle.quadratic.specs.QuadraticMin as quadmin
@@ -16,15 +16,15 @@ use Rattle.quadratic.specs.declared.quadratic_min.QuadraticMin.{Quadrati
 use Rattle.quadratic.proofs.Finite.{a-within, b-within}
 
 -- a section from x0 to x1, at x0
-module _ (x0 x1 y total : Float) (wy : Within 150 y) (ws : Within 400 (x1 ⊖ x0)) (kept : Total total) (v : Zero ((x0 ⊖ x0) ⊘ (x1 ⊖ x0))) where
+module _ {x0 x1 y total : Float} (wy : Within 150 y) (here : AtLeft x0 x1 total) where
   under-starts : {F G : Float} → Within 152 F → Within 152 G → under total (x1 ⊖ x0) («a_of» F G y) («b_of» F G y) F ((x0 ⊖ x0) ⊘ (x1 ⊖ x0)) ≡ total
   under-starts wF wG =
-      let wz = zero-small v in
+      let wz = zero-small (here .place) in
       let squared = product-within (product-within (quotient-within (a-within wF wG (wider wy tt) (wider wz tt)) three-low tt) wz tt) wz tt in
       let single = product-within (quotient-within (b-within wF wG (wider wy tt) (wider wz tt)) two-low tt) wz tt in
-      total-stays kept (product-zero (product-within ws (sum-within (sum-within squared single tt) wF tt) tt) v)
+      total-stays (here .total) (product-zero (product-within (here .length) (sum-within (sum-within squared single tt) wF tt) tt) (here .place))
 
-  module _ (F G : Float) (wF : Within 152 F) (wG : Within 152 G) where
+  module _ {F G : Float} (wF : Within 152 F) (wG : Within 152 G) where
     pub plain-starts : quadratic.primitive (quadratic.new x0 x1 F G y total) x0 ≡ total
     plain-starts = under-starts wF wG
 
