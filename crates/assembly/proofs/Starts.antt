@@ -1,4 +1,4 @@
--- 02, K9: at its own left knot each section of a table of ordinary size that is not split gives back the total before it. In every mode, with a seam or none, held or not.
+-- 02, K1: at its own left knot each section of a table of ordinary size that is not split gives back the total before it. In every mode, with a seam or none, held or not.
 use Prim.Native.Nat as nat
 use Prim.Native.Nat.{ℕ, suc, _+_, _-_, _≤_, _<_}
 use native.Mathlib.Omega.{arith}

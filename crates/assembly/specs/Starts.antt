@@ -1,4 +1,4 @@
--- 02, K9: the tables of ordinary size, of which it is known what each section that is not split gives back at its own left knot.
+-- 02, K1: the tables of ordinary size, of which it is known what each section that is not split gives back at its own left knot.
 use Prim.Native.Nat.{ℕ, _+_, _-_}
 use mathlib.Core.Bool.{Bool, true, _&&_}
 use mathlib.Core.List.{List}

@@ -1,4 +1,4 @@
--- 02, K9: at its own left knot a section that is not split gives back the total that it was handed, in every mode, for a period of ordinary size.
+-- 02, K1: at its own left knot a section that is not split gives back the total that it was handed, in every mode, for a period of ordinary size.
 use Prim.Native.Nat.{ℕ}
 use mathlib.Core.Bool.{Bool, true, false}
 use mathlib.Core.Path.{_≡_}

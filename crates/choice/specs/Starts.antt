@@ -1,4 +1,4 @@
--- 02, K9: whether a section is split, and the total that one which is not gives back at its own left knot.
+-- 02, K1: whether a section is split, and the total that one which is not gives back at its own left knot.
 use mathlib.Core.Bool.{Bool, false, _||_}
 use lib.Ieee.{Float}
 use Rattle.section.specs.Combination as combination

@@ -21,7 +21,7 @@ use Rattle.query.proofs.Above.{none-before, above-here}
 use Rattle.query.specs.Steps.{covers}
 
 -- knots that rise step by step rise over any stretch
-climbs : (x : List Float) → rising x ≡ true → (i k : ℕ) → i + 1 + k < length x → lt (at x i) (at x (i + 1 + k)) ≡ true
+pub climbs : (x : List Float) → rising x ≡ true → (i k : ℕ) → i + 1 + k < length x → lt (at x i) (at x (i + 1 + k)) ≡ true
 unfolding rising
 climbs x up i zero h =
     let e : i + 1 + 0 ≡ i + 1 = omega arith in

@@ -1,0 +1,89 @@
+-- What a build with a column leaves, by what the build without one does.
+use Prim.Native.Nat.{ℕ, _≤_}
+use mathlib.Core.Bool.{Bool, true, false, cond}
+use mathlib.Core.List.{List}
+use mathlib.Core.Path.{_≡_, refl, sym, ap, subst, _∙_}
+use borrow.Author.Tests.{le-ltb}
+use lib.Dec.{ltb}
+use lib.Ieee.{Float}
+use lib.ListN.{length}
+use Rattle.numbers.specs.Overlay.{overlay}
+use Rattle.refusal.specs.declared.Refusal.{Refusal}
+use Rattle.refusal.specs.declared.Refusal.the-variants.{BufferTooShort}
+use Rattle.refusal.specs.declared.Verdict.{Verdict}
+use Rattle.refusal.specs.declared.Verdict.the-variants as verdict
+use Rattle.table.specs.Buffers.{Buffers, Outcome, buffers, outcome, judged}
+use Rattle.table.specs.declared.method.ConvexMonotone.{ConvexMonotone}
+use Rattle.table.specs.declared.ends.Frame.{Frame}
+use Rattle.table.specs.declared.ends.Seam.{Seam}
+use Rattle.table.proofs.Outcomes.{was-accepted, left-new}
+use Rattle.assembly.specs.Making.{after}
+use Rattle.curve.specs.Build.{buildVerdict, wholeFrame, curveOf, buildOutcome}
+use Rattle.curve.specs.declared.curve.Built.{Built}
+use Rattle.curve.specs.declared.curve.Built.the-variants as built
+use Rattle.curve.specs.declared.curve.Curve.{Curve}
+use Rattle.curve.proofs.Careful.{verdictIn}
+use Rattle.growth.specs.Growth.{grown}
+use Rattle.growth.specs.declared.growth.Carried.{Carried}
+use Rattle.growth.specs.declared.growth.Carried.the-variants as carried
+use Rattle.query.specs.Many.{manyVerdict}
+use Rattle.column.specs.Column.{Columned, columnAt, columned, columnBy, withColumn}
+use Rattle.column.specs.Steps.{lastVerdict}
+use Rattle.column.proofs.Knots.{column-accepted}
+
+module _ (x : List Float) (b : Buffers) (column : List Float) where
+  -- a short column: what refuses the build is told, and else the column
+  too-short : (v : Verdict) (c : Curve) (new : Buffers) → ltb (length column) (length x) ≡ true →
+      record { answer = lastVerdict v; buffers = b; column = column } ≡ withColumn x b column (judged v built.Refused b (record { answer = built.Curve c; buffers = new }))
+  too-short verdict.Accepted c new h = rw h
+  too-short (verdict.Refused r) c new h = refl
+
+  -- a build that is refused leaves the column as it was
+  pub not-built : (o : Outcome Built) (k : Built) (n : List Float) (t : List ℕ) (s : List Float) (r : Refusal) → outcome k n t s ≡ o → k ≡ built.Refused r →
+      columned k n t s column ≡ withColumn x b column o
+  not-built o k n t s r e f =
+      ap (λ (a : Built). columned a n t s column) f ∙ ap (λ (a : Built). columnBy x b column a (buffers n t s)) (sym f) ∙ ap (withColumn x b column) e
+
+  -- with room for it, a curve's column is written
+  pub built-with : (o : Outcome Built) (k : Built) (n : List Float) (t : List ℕ) (s filled : List Float) (c : Curve) → outcome k n t s ≡ o → k ≡ built.Curve c →
+      length x ≤ length column → filled ≡ overlay 0 (length x) (columnAt x c t s) column → columned (built.Curve c) n t s filled ≡ withColumn x b column o
+  built-with o k n t s filled c e f room g =
+      ap (λ (l : List Float). columned (built.Curve c) n t s l) g
+      ∙ sym (ap (λ (short : Bool). cond short (record { answer = built.Refused BufferTooShort; buffers = b; column = column }) (columned (built.Curve c) n t s (overlay 0 (length x) (columnAt x c t s) column))) (le-ltb (length column) (length x) room))
+      ∙ ap (λ (a : Built). columnBy x b column a (buffers n t s)) (sym f)
+      ∙ ap (withColumn x b column) e
+
+  -- growth: what is carried is refused, or built with
+  pub not-carried : (k : Carried) (r : Refusal) (build : Seam → Outcome Built) → k ≡ carried.Refused r →
+      record { answer = built.Refused r; buffers = b; column = column } ≡ withColumn x b column (grown k b build)
+  not-carried k r build e = rw e
+
+  pub carried-on : (k : Carried) (s : Seam) (build : Seam → Outcome Built) (o : Columned) → k ≡ carried.Seam s → o ≡ withColumn x b column (build s) →
+      o ≡ withColumn x b column (grown k b build)
+  carried-on k s build o e h = rw e h
+
+module _ (x y : List Float) (method : ConvexMonotone) (hold : Bool) (seam : Seam) (b : Buffers) where
+  abbrev frame : Frame
+  frame = wholeFrame (length x) method hold seam
+
+  pub short-column : (column : List Float) (v : Verdict) → v ≡ buildVerdict x y method seam b → ltb (length column) (length x) ≡ true →
+      record { answer = lastVerdict v; buffers = b; column = column } ≡ withColumn x b column (buildOutcome x y method hold seam b)
+  unfolding curveOf
+  short-column column v e h =
+      ap (λ (w : Verdict). record { answer = lastVerdict w; buffers = b; column = column }) e ∙ too-short x b column (buildVerdict x y method seam b) _ _ h
+
+  -- a curve that was answered was accepted, and left its records
+  pub accepted-build : (o : Outcome Built) (c : Curve) → o ≡ buildOutcome x y method hold seam b → o .answer ≡ built.Curve c → buildVerdict x y method seam b ≡ verdict.Accepted
+  unfolding curveOf
+  accepted-build o c e f = was-accepted verdictIn (buildVerdict x y method seam b) built.Refused (λ r. refl) b _ refl o e (ap verdictIn f)
+
+  pub left-build : (o : Outcome Built) (c : Curve) → o ≡ buildOutcome x y method hold seam b → o .answer ≡ built.Curve c → o .buffers ≡ after 0 x y frame b
+  unfolding curveOf
+  left-build o c e f = ap (λ (p : Outcome Built). p .buffers) (left-new (buildVerdict x y method seam b) built.Refused b _ o e (accepted-build o c e f))
+
+  -- and answers at its knots
+  pub knots-answer : (o : Outcome Built) (c : Curve) (room : ℕ) → o ≡ buildOutcome x y method hold seam b → o .answer ≡ built.Curve c → length x ≤ room →
+      manyVerdict x c (o .buffers .tags) (o .buffers .slots) x room ≡ verdict.Accepted
+  knots-answer o c room e f l =
+      subst (λ (k : Buffers). manyVerdict x c (k .tags) (k .slots) x room ≡ verdict.Accepted) (sym (left-build o c e f))
+      (column-accepted x y frame method seam b c room (accepted-build o c e f) l)

@@ -1,0 +1,5 @@
+pub mod Knots
+pub mod Left
+pub mod Placed
+pub mod SameStrip
+pub mod Unique

@@ -1,0 +1,4 @@
+pub mod Between
+pub mod Column
+pub mod SameStrip
+pub mod Steps
