@@ -22,7 +22,8 @@ use Rattle.curve.specs.Curve.{curveInNumbers}
 use Rattle.curve.specs.declared.curve.Curve.{Curve}
 use Rattle.curve.specs.declared.curve.Built.{Built}
 use Rattle.curve.specs.declared.curve.Built.the-variants as built
-use Rattle.growth.specs.Growth.{grown}
+use Rattle.growth.specs.Growth.{grown, growOutcome}
+use Rattle.growth.specs.declared.growth.Previous.{Previous}
 use Rattle.growth.specs.declared.growth.Carried.{Carried}
 use Rattle.growth.specs.declared.growth.Carried.the-variants as carried
 use Rattle.sheets.specs.Cuts.{cutsFit}
@@ -140,3 +141,12 @@ last-of-sheet (verdict.Refused r) b new s e = refl
 pub sheet-last : (x y : List Float) (method : ConvexMonotone) (l r : End) (start : Float) (place : ℕ) (b : Buffers) (v : Verdict) (n : ℕ) →
     v ≡ sheetVerdict x y method l r place b → n ≡ lastRefusal v → n ≡ one-sheet.shortRefusal (sheetOutcome x y method l r start place b .answer)
 sheet-last x y method l r start place b v n e f = f ∙ ap lastRefusal e ∙ last-of-sheet (sheetVerdict x y method l r place b) b _ _ refl
+
+-- what is built with the settings and the seam that came across
+pub same-build : (x y : List Float) (m n : ConvexMonotone) (hold : Bool) (s t : Seam) (b : Buffers) → m ≡ n → s ≡ t → buildOutcome x y m hold s b ≡ buildOutcome x y n hold t b
+same-build x y m n hold s t b e f = ap (λ (k : ConvexMonotone). buildOutcome x y k hold s b) e ∙ ap (λ (k : Seam). buildOutcome x y n hold k b) f
+
+-- what is grown with the settings and the previous curve that came across
+module _ (x y : List Float) (m n : ConvexMonotone) (localisation final : ℕ) (p q : Previous) (tags : List ℕ) (slots : List Float) (b : Buffers) (e : m ≡ n) (f : p ≡ q) where
+  pub same-grow : growOutcome x y m localisation final p tags slots b ≡ growOutcome x y n localisation final q tags slots b
+  same-grow = ap (λ (k : ConvexMonotone). growOutcome x y k localisation final p tags slots b) e ∙ ap (λ (k : Previous). growOutcome x y n localisation final k tags slots b) f

@@ -1,3 +1,4 @@
 pub mod Across
+pub mod Columned
 pub mod Enough
 pub mod Unique

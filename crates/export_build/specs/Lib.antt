@@ -1,4 +1,5 @@
 pub mod Building
+pub mod Columns
 pub mod Growing
 pub mod OneSheet
 pub mod Settings

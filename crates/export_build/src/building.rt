@@ -17,7 +17,7 @@ ghost use Rattle.export_build.specs.Settings.{unknown, methodOf};
 ghost use Rattle.export_build.specs.Steps.{lastRefusal};
 
 // A seam across the boundary: whether there is one, its count and its node.
-fn seam_of(seamed: bool, count: usize, node: f64) -> Seam
+pub(crate) fn seam_of(seamed: bool, count: usize, node: f64) -> Seam
     ensures { λ r. ⌜ r ≡ seamOf seamed count node ⌝ }
 {
     if seamed {

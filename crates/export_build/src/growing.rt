@@ -24,7 +24,7 @@ ghost use Rattle.export_build.specs.Settings.{unknown, methodOf};
 ghost use Rattle.export_build.specs.Steps.{lastGrowth};
 
 // What growth reads of the previous curve beside its records. It asks for no price, so the tail is not needed.
-fn previous_of(given: bool, sections: usize, held: bool) -> Previous
+pub(crate) fn previous_of(given: bool, sections: usize, held: bool) -> Previous
     ensures { λ r. ⌜ r ≡ previousOf given sections held ⌝ }
 {
     if given {
@@ -44,7 +44,7 @@ fn previous_of(given: bool, sections: usize, held: bool) -> Previous
 }
 
 // The first refusal of a growing table for buffers of these lengths, where its answers have no room.
-fn refusal_of(
+pub(crate) fn refusal_of(
     knots: &[f64],
     averages: &[f64],
     method: ConvexMonotone,

@@ -1,25 +1,17 @@
 -- `havgrunel_build` meets its contract: with no room for its answers it asks the library for its refusal alone, and with room it returns what the library built.
-use mathlib.Core.Bool.{Bool, false}
-use mathlib.Core.List.{List}
+use mathlib.Core.Bool.{false}
 use mathlib.Core.Path.{_≡_, sym, ap, _∙_}
 use borrow.Author.Needs.{needs}
 use borrow.Author.Tests.{lt-ltb, le-ltb}
-use lib.Ieee.{Float}
 use lib.ListN.{length}
-use Rattle.table.specs.Buffers.{Buffers, Outcome, buffers}
-use Rattle.table.specs.declared.method.ConvexMonotone.{ConvexMonotone}
-use Rattle.table.specs.declared.ends.Seam.{Seam}
+use Rattle.table.specs.Buffers.{Outcome, buffers}
 use Rattle.curve.specs.Build.{buildOutcome}
 use Rattle.curve.specs.declared.curve.Built.{Built}
 use Rattle.export_build.specs.Building.{seamOf, noAnswer, shortRefusal}
 use Rattle.export_build.specs.Settings.{unknown, methodOf}
-use Rattle.export_build.proofs.Across.{roomy, mode-refused, curve-short, curve-roomy, build-last}
+use Rattle.export_build.proofs.Across.{roomy, mode-refused, curve-short, curve-roomy, build-last, same-build}
 use Rattle.export_build.proofs.building.havgrunel_build.Statement.{statement}
 use Rattle.export_build.proofs.building.havgrunel_build.Tie as tie
-
--- what is built with the settings and the seam that came across
-same-build : (x y : List Float) (m n : ConvexMonotone) (hold : Bool) (s t : Seam) (b : Buffers) → m ≡ n → s ≡ t → buildOutcome x y m hold s b ≡ buildOutcome x y n hold t b
-same-build x y m n hold s t b e f = ap (λ (k : ConvexMonotone). buildOutcome x y k hold s b) e ∙ ap (λ (k : Seam). buildOutcome x y n hold k b) f
 
 returns : tie.Need-returns
 returns c =

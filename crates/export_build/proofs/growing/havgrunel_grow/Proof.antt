@@ -1,28 +1,18 @@
 -- `havgrunel_grow` meets its contract: with no room for its answers it asks for the refusal alone, and with room it returns what the library grew.
-use Prim.Native.Nat.{ℕ}
 use mathlib.Core.Bool.{false}
-use mathlib.Core.List.{List}
 use mathlib.Core.Path.{_≡_, sym, ap, _∙_}
 use borrow.Author.Needs.{needs}
 use borrow.Author.Tests.{lt-ltb, le-ltb}
-use lib.Ieee.{Float}
 use lib.ListN.{length}
-use Rattle.table.specs.Buffers.{Buffers, Outcome, buffers}
-use Rattle.table.specs.declared.method.ConvexMonotone.{ConvexMonotone}
+use Rattle.table.specs.Buffers.{Outcome, buffers}
 use Rattle.curve.specs.declared.curve.Built.{Built}
 use Rattle.growth.specs.Growth.{carriedAt, growOutcome, holds}
-use Rattle.growth.specs.declared.growth.Previous.{Previous}
 use Rattle.export_build.specs.Building.{noAnswer, shortRefusal}
 use Rattle.export_build.specs.Growing.{previousOf}
 use Rattle.export_build.specs.Settings.{unknown, methodOf}
-use Rattle.export_build.proofs.Across.{roomy, mode-refused, curve-short, curve-roomy, grow-last}
+use Rattle.export_build.proofs.Across.{roomy, mode-refused, curve-short, curve-roomy, grow-last, same-grow}
 use Rattle.export_build.proofs.growing.havgrunel_grow.Statement.{statement}
 use Rattle.export_build.proofs.growing.havgrunel_grow.Tie as tie
-
--- what is grown with the settings and the previous curve that came across
-module _ (x y : List Float) (m n : ConvexMonotone) (localisation final : ℕ) (p q : Previous) (tags : List ℕ) (slots : List Float) (b : Buffers) (e : m ≡ n) (f : p ≡ q) where
-  same-grow : growOutcome x y m localisation final p tags slots b ≡ growOutcome x y n localisation final q tags slots b
-  same-grow = ap (λ (k : ConvexMonotone). growOutcome x y k localisation final p tags slots b) e ∙ ap (λ (k : Previous). growOutcome x y n localisation final k tags slots b) f
 
 returns : tie.Need-returns
 returns c =
