@@ -12,7 +12,7 @@
  *
  * A NaN is a NaN here, whatever its sign and payload: any may come back. All other numbers are the same on every machine, bit for bit.
  *
- * What each function answers, entry by entry, is a proved equation in the four crates whose names begin with export_. Two things are taken on trust: the
+ * What each function answers, entry by entry, is a proved equation in the five crates whose names begin with export_. Two things are taken on trust: the
  * step from checked code to machine code, and that callers keep to the lines above, which no proof on this side can see.
  */
 #ifndef HAVGRUNEL_H
@@ -29,25 +29,26 @@ extern "C" {
 /* The refusals. A call that could be refused for several reasons tells the first in its own order, which is said at each function. */
 enum havgrunel_refusal {
     HAVGRUNEL_ACCEPTED = 0,
-    HAVGRUNEL_LENGTHS_DIFFER = 1,       /* there are not as many averages as knots */
-    HAVGRUNEL_MONOTONICITY_OUTSIDE = 2, /* the monotonicity is not a number from 0 to 1 */
-    HAVGRUNEL_QUADRATICITY_OUTSIDE = 3, /* the quadraticity is not a number from 0 to 1 */
-    HAVGRUNEL_TOO_FEW_POINTS = 4,       /* there are fewer than two knots */
-    HAVGRUNEL_KNOT_NOT_FINITE = 5,      /* a knot is infinite or not a number */
-    HAVGRUNEL_AVERAGE_NOT_FINITE = 6,   /* an average is infinite or not a number */
-    HAVGRUNEL_KNOTS_NOT_RISING = 7,     /* a knot is not above the one before it */
-    HAVGRUNEL_SEAM_TOO_LONG = 8,        /* the seam leaves no period to build */
-    HAVGRUNEL_NO_PREVIOUS_CURVE = 9,    /* past the first window a curve grows from a previous one, and there is none or it has no section */
-    HAVGRUNEL_TOO_MANY_POINTS = 10,     /* there are more than 4096 knots */
-    HAVGRUNEL_BUFFER_TOO_SHORT = 11,    /* a buffer is too short for what is to be written or read */
-    HAVGRUNEL_QUERY_NOT_A_NUMBER = 12,  /* the point that is asked for is not a number */
-    HAVGRUNEL_QUERY_OUTSIDE = 13,       /* the point that is asked for lies outside the knots, and extrapolation is off */
-    HAVGRUNEL_DERIVATIVE_ASKED = 14,    /* the method has no derivative */
-    HAVGRUNEL_RECORD_NOT_LEGAL = 15,    /* a record's tag is not legal, or the record is not there */
-    HAVGRUNEL_NO_GIVEN_NODE = 16,       /* a sheet needs a given node at one end at least, and this one has none */
-    HAVGRUNEL_CUTS_NOT_INNER = 28,      /* a cut is not an inner knot of the table, or not above the cut before it */
-    HAVGRUNEL_AVERAGE_BELOW_ZERO = 29,  /* an average is below 0, and no curve at or above 0 can keep it, as the safe split promises */
-    HAVGRUNEL_SPLIT_UNKNOWN = 30        /* the split's number is none of 0, 1 and 2 */
+    HAVGRUNEL_LENGTHS_DIFFER = 1,         /* there are not as many averages as knots */
+    HAVGRUNEL_MONOTONICITY_OUTSIDE = 2,   /* the monotonicity is not a number from 0 to 1 */
+    HAVGRUNEL_QUADRATICITY_OUTSIDE = 3,   /* the quadraticity is not a number from 0 to 1 */
+    HAVGRUNEL_TOO_FEW_POINTS = 4,         /* there are fewer than two knots */
+    HAVGRUNEL_KNOT_NOT_FINITE = 5,        /* a knot is infinite or not a number */
+    HAVGRUNEL_AVERAGE_NOT_FINITE = 6,     /* an average is infinite or not a number */
+    HAVGRUNEL_KNOTS_NOT_RISING = 7,       /* a knot is not above the one before it */
+    HAVGRUNEL_SEAM_TOO_LONG = 8,          /* the seam leaves no period to build */
+    HAVGRUNEL_NO_PREVIOUS_CURVE = 9,      /* past the first window a curve grows from a previous one, and there is none or it has no section */
+    HAVGRUNEL_TOO_MANY_POINTS = 10,       /* there are more than 4096 knots */
+    HAVGRUNEL_BUFFER_TOO_SHORT = 11,      /* a buffer is too short for what is to be written or read */
+    HAVGRUNEL_QUERY_NOT_A_NUMBER = 12,    /* the point that is asked for is not a number */
+    HAVGRUNEL_QUERY_OUTSIDE = 13,         /* the point that is asked for lies outside the knots, and extrapolation is off */
+    HAVGRUNEL_DERIVATIVE_ASKED = 14,      /* the method has no derivative */
+    HAVGRUNEL_RECORD_NOT_LEGAL = 15,      /* a record's tag is not legal, or the record is not there */
+    HAVGRUNEL_NO_GIVEN_NODE = 16,         /* a sheet needs a given node at one end at least, and this one has none */
+    HAVGRUNEL_STRIP_ENDS_NOT_RISING = 18, /* the strip's first end is not below its second, or a place is past the last knot */
+    HAVGRUNEL_CUTS_NOT_INNER = 28,        /* a cut is not an inner knot of the table, or not above the cut before it */
+    HAVGRUNEL_AVERAGE_BELOW_ZERO = 29,    /* an average is below 0, and no curve at or above 0 can keep it, as the safe split promises */
+    HAVGRUNEL_SPLIT_UNKNOWN = 30          /* the split's number is none of 0, 1 and 2 */
 };
 
 /* A curve of n points takes n nodes, n - 1 tags and HAVGRUNEL_SLOTS slots for each tag. */
@@ -159,6 +160,40 @@ uint8_t havgrunel_grow(
     double *tail, size_t tail_count);
 
 /*
+ * The same two calls for a curve that keeps a column: the total up to each knot, as havgrunel_primitive answers it there, into column[0] and on. The
+ * tail answers it at the last knot. havgrunel_strip_between reads the column. Sheets write none.
+ *
+ * Refused in the order of the call without a column; a `column` that is shorter than the knots is an 11 as well.
+ */
+uint8_t havgrunel_build_with_column(
+    const double *knots, size_t knots_count,
+    const double *averages, size_t averages_count,
+    double quadraticity, double monotonicity, bool positive, uint8_t split,
+    bool hold,
+    bool seamed, size_t seam_count, double seam_node,
+    double *nodes, size_t nodes_count,
+    uint16_t *tags, size_t tags_count,
+    double *slots, size_t slots_count,
+    size_t *sections, size_t sections_count,
+    double *tail, size_t tail_count,
+    double *column, size_t column_count);
+
+uint8_t havgrunel_grow_with_column(
+    const double *knots, size_t knots_count,
+    const double *averages, size_t averages_count,
+    double quadraticity, double monotonicity, bool positive, uint8_t split,
+    size_t localisation, size_t final_size,
+    bool grown, size_t previous_sections, bool previous_held,
+    const uint16_t *previous_tags, size_t previous_tags_count,
+    const double *previous_slots, size_t previous_slots_count,
+    double *nodes, size_t nodes_count,
+    uint16_t *tags, size_t tags_count,
+    double *slots, size_t slots_count,
+    size_t *sections, size_t sections_count,
+    double *tail, size_t tail_count,
+    double *column, size_t column_count);
+
+/*
  * The node at an inner knot, from the knots before it, at it and after it, and the averages of the two periods that meet there. It is what the
  * sheets on both sides of a cut are given.
  */
@@ -254,6 +289,61 @@ uint8_t havgrunel_primitives(
     bool extrapolate,
     const double *xs, size_t xs_count,
     double *answers, size_t answers_count);
+
+/*
+ * The average price of the strip from a to b, into answer[0]: the total up to b less the total up to a, divided by b - a, each step rounded once. The
+ * knots are checked once for both ends.
+ *
+ * Refused in the order 4, 5, 7, 10, 11 (also for an `answer` with no entry), 12, 13, 15 for a; then 12, 13, 15 for b; then 18 unless a is below b.
+ */
+uint8_t havgrunel_strip(
+    const double *knots, size_t knots_count,
+    const uint16_t *tags, size_t tags_count,
+    const double *slots, size_t slots_count,
+    double tail_value, double tail_total, double tail_from,
+    bool extrapolate, double a, double b,
+    double *answer, size_t answer_count);
+
+/*
+ * The average prices of many strips, into the first entries of `answers`: each is what the call above tells of it. The strips of havgrunel_strips go from
+ * each of starts to the number beside it in ends. Those of havgrunel_strip_run adjoin, and go from each of edges to the next: there is one fewer than
+ * edges, and none where there is no edge. The knots are checked once for all, an edge that two strips share is asked once, and ends that rise cost a
+ * step each. All or nothing: where any strip is refused, nothing is written.
+ *
+ * Refused in the order 1 where there are not as many ends as starts, 4, 5, 7, 10, 11 (also for an `answers` that is shorter than the strips); then by the
+ * first strip that is refused: 12, 13, 15 for its start, 12, 13, 15 for its end, 18.
+ */
+uint8_t havgrunel_strips(
+    const double *knots, size_t knots_count,
+    const uint16_t *tags, size_t tags_count,
+    const double *slots, size_t slots_count,
+    double tail_value, double tail_total, double tail_from,
+    bool extrapolate,
+    const double *starts, size_t starts_count,
+    const double *ends, size_t ends_count,
+    double *answers, size_t answers_count);
+
+uint8_t havgrunel_strip_run(
+    const double *knots, size_t knots_count,
+    const uint16_t *tags, size_t tags_count,
+    const double *slots, size_t slots_count,
+    double tail_value, double tail_total, double tail_from,
+    bool extrapolate,
+    const double *edges, size_t edges_count,
+    double *answers, size_t answers_count);
+
+/*
+ * The average price of the strip from knot i to knot j, both counted from 0, into answer[0]: (column[j] - column[i]) / (knots[j] - knots[i]), each step
+ * rounded once. With the column that was written with the curve, it is what havgrunel_strip tells from the one knot to the other.
+ *
+ * Refused in the order 4, 5, 7, 10, 11 (for a `column` that is shorter than the knots, or an `answer` with no entry), 18 unless i is below j and j below
+ * the count of knots.
+ */
+uint8_t havgrunel_strip_between(
+    const double *knots, size_t knots_count,
+    const double *column, size_t column_count,
+    size_t i, size_t j,
+    double *answer, size_t answer_count);
 
 /* The method has no derivative: 14 comes back, whatever x is. */
 uint8_t havgrunel_derivative(double x);

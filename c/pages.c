@@ -85,6 +85,14 @@ static uint8_t build_safely(void)
     return build_by(HAVGRUNEL_SPLIT_SAFE);
 }
 
+static uint8_t build_with_column(void)
+{
+    size_t sections[1];
+    double tail[3];
+    return havgrunel_build_with_column(knots, points, averages, points, 0.3, 0.7, true, HAVGRUNEL_SPLIT_ORIGINAL, false, false, 0, 0.0, NULL, 0, NULL, 0,
+        NULL, 0, sections, 1, tail, 3, NULL, 0);
+}
+
 static uint8_t value(void)
 {
     double answer;
@@ -96,6 +104,25 @@ static uint8_t primitives(void)
     const double queries[2] = {0.0, 1.0};
     double answers[2];
     return havgrunel_primitives(knots, points, NULL, 0, NULL, 0, 0.0, 0.0, 0.0, true, queries, 2, answers, 2);
+}
+
+static uint8_t strip(void)
+{
+    double answer;
+    return havgrunel_strip(knots, points, NULL, 0, NULL, 0, 0.0, 0.0, 0.0, true, 0.0, 1.0, &answer, 1);
+}
+
+static uint8_t strip_run(void)
+{
+    const double edges[3] = {0.0, 1.0, 2.0};
+    double answers[2];
+    return havgrunel_strip_run(knots, points, NULL, 0, NULL, 0, 0.0, 0.0, 0.0, true, edges, 3, answers, 2);
+}
+
+static uint8_t strip_between(void)
+{
+    double answer;
+    return havgrunel_strip_between(knots, points, NULL, 0, 0, points - 1, &answer, 1);
 }
 
 static int calls;
@@ -121,8 +148,12 @@ static void try_calls(const char *told, uint8_t of_build, uint8_t of_query)
 {
     try_call("a build", build, told, of_build);
     try_call("a safe build", build_safely, told, of_build);
+    try_call("a build with a column", build_with_column, told, of_build);
     try_call("a price", value, told, of_query);
     try_call("totals", primitives, told, of_query);
+    try_call("a strip", strip, told, of_query);
+    try_call("a run of strips", strip_run, told, of_query);
+    try_call("a strip between places", strip_between, told, of_query);
 }
 
 int main(void)

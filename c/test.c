@@ -920,6 +920,355 @@ static void unknown_splits(void)
     }
 }
 
+/* A curve with its column. */
+struct columned {
+    struct curve curve;
+    double column[NODES];
+};
+
+static bool columned_untouched(const struct columned *c)
+{
+    struct columned fresh;
+    memset(&fresh, 0x5a, sizeof fresh);
+    return memcmp(c, &fresh, sizeof fresh) == 0;
+}
+
+struct seam {
+    bool given;
+    size_t count;
+    double node;
+};
+
+static uint8_t build_column_in(const struct table *t, bool hold, struct seam s, size_t nodes, size_t sections, size_t tail, size_t room,
+    struct columned *c)
+{
+    memset(c, 0x5a, sizeof *c);
+    return havgrunel_build_with_column(t->knots, t->knots_count, t->averages, t->averages_count, t->quadraticity, t->monotonicity, t->positive,
+        t->split, hold, s.given, s.count, s.node, c->curve.nodes, nodes, c->curve.tags, TAGS, c->curve.slots, SLOTS, c->curve.sections, sections,
+        c->curve.tail, tail, c->column, room);
+}
+
+static const struct seam no_seam = {false, 0, 0.0};
+
+static uint8_t build_column(const struct table *t, bool hold, struct seam s, struct columned *c)
+{
+    return build_column_in(t, hold, s, NODES, 2, 4, NODES, c);
+}
+
+static uint8_t grow_column_in(const struct table *t, size_t localisation, bool grown, size_t sections, const struct curve *from, size_t tail, size_t room,
+    struct columned *c)
+{
+    memset(c, 0x5a, sizeof *c);
+    return havgrunel_grow_with_column(t->knots, t->knots_count, t->averages, t->averages_count, t->quadraticity, t->monotonicity, t->positive,
+        t->split, localisation, 5, grown, sections, true, from->tags, TAGS, from->slots, SLOTS, c->curve.nodes, NODES, c->curve.tags, TAGS,
+        c->curve.slots, SLOTS, c->curve.sections, 2, c->curve.tail, tail, c->column, room);
+}
+
+static uint8_t strip(const struct table *t, const struct curve *c, bool extrapolate, double a, double b, double *answer, size_t room)
+{
+    return havgrunel_strip(t->knots, t->knots_count, c->tags, TAGS, c->slots, SLOTS, c->tail[0], c->tail[1], c->tail[2], extrapolate, a, b, answer, room);
+}
+
+static uint8_t strips(const struct table *t, const struct curve *c, bool extrapolate, const double *starts, size_t starts_count, const double *ends,
+    size_t ends_count, double *to, size_t room)
+{
+    return havgrunel_strips(t->knots, t->knots_count, c->tags, TAGS, c->slots, SLOTS, c->tail[0], c->tail[1], c->tail[2], extrapolate, starts,
+        starts_count, ends, ends_count, to, room);
+}
+
+static bool strip_refused(const struct table *t, const struct curve *c, bool extrapolate, double a, double b, uint8_t refusal)
+{
+    double v = -1.0;
+    return strip(t, c, extrapolate, a, b, &v, 1) == refusal && same(v, -1.0);
+}
+
+/* The strip from a to b is what two totals and the length make of it. */
+static bool strip_by_totals(const struct table *t, const struct curve *c, bool extrapolate, double a, double b)
+{
+    double from = -1.0;
+    double to = -1.0;
+    double v[2] = {-1.0, -1.0};
+    if (ask(havgrunel_primitive, t, c, extrapolate, a, &from) != 0 || ask(havgrunel_primitive, t, c, extrapolate, b, &to) != 0)
+        return false;
+    const double total = to - from;
+    const double length = b - a;
+    return strip(t, c, extrapolate, a, b, v, 2) == 0 && same(v[0], total / length) && same(v[1], -1.0);
+}
+
+/* The column is the total up to each knot, the curve beside it is the one that is built without it, and strips between places are those between knots. */
+static void check_column(const struct table *t, const struct columned *c, const struct curve *without)
+{
+    const size_t n = t->knots_count;
+    struct columned fresh;
+    memset(&fresh, 0x5a, sizeof fresh);
+    CHECK(memcmp(&c->curve, without, sizeof *without) == 0);
+    CHECK(memcmp(c->column + n, fresh.column + n, (NODES - n) * sizeof *c->column) == 0);
+    for (size_t i = 0; i < n; i++) {
+        double total = -1.0;
+        CHECK(ask(havgrunel_primitive, t, without, false, t->knots[i], &total) == 0 && same(c->column[i], total));
+        for (size_t j = 0; j <= n; j++) {
+            double v[2] = {-1.0, -1.0};
+            const uint8_t told = havgrunel_strip_between(t->knots, n, c->column, n, i, j, v, 2);
+            if (i < j && j < n) {
+                double by_knots = -1.0;
+                CHECK(told == 0 && same(v[1], -1.0));
+                for (int extrapolate = 0; extrapolate < 2; extrapolate++)
+                    CHECK(strip(t, without, extrapolate == 1, t->knots[i], t->knots[j], &by_knots, 1) == 0 && same(v[0], by_knots));
+            } else {
+                CHECK(told == HAVGRUNEL_STRIP_ENDS_NOT_RISING && same(v[0], -1.0));
+            }
+        }
+    }
+}
+
+static void columns(void)
+{
+    const double knots[] = {0.0, 1.0, 2.5, 3.0, 5.0};
+    const double averages[] = {0.0, 5.0, 3.0, 1.0, 2.5};
+    struct columned c;
+    struct curve without;
+
+    /* every split, all numbers of points from 2 on, held or not, and with a seam */
+    struct table t = {knots, 5, averages, 5, 0.0, 0.7, true, HAVGRUNEL_SPLIT_ORIGINAL};
+    for (uint8_t split = 0; split < 3; split++) {
+        t.split = split;
+        for (size_t n = 2; n <= 5; n++) {
+            t.knots_count = t.averages_count = n;
+            for (int hold = 0; hold < 2; hold++) {
+                CHECK(build_column(&t, hold == 1, no_seam, &c) == 0 && build(&t, hold == 1, &without) == 0);
+                check_column(&t, &c, &without);
+                if (n > 2) {
+                    const struct seam seam = {true, 1, 4.5};
+                    fill(&without);
+                    CHECK(build_column(&t, hold == 1, seam, &c) == 0);
+                    CHECK(build_in(&t, hold == 1, true, 1, 4.5, NODES, TAGS, SLOTS, 2, 4, &without) == 0);
+                    check_column(&t, &c, &without);
+                }
+            }
+        }
+    }
+
+    /* at the last knot the tail answers, and not the last section, whose own formula rounds otherwise here */
+    const double tenths[] = {0.0, 0.1, 0.2, 0.3};
+    const double prices[] = {0.0, 1.0, 1.0, 3.0};
+    t = (struct table){tenths, 4, prices, 4, 0.3, 0.7, false, HAVGRUNEL_SPLIT_ORIGINAL};
+    double last[3];
+    CHECK(build_column(&t, false, no_seam, &c) == 0 && same(c.column[3], c.curve.tail[1]));
+    CHECK(havgrunel_section(c.curve.tags[2], c.curve.slots + TWO, FIELDS, 0.3, last, 3) == 0 && !same(c.column[3], last[1]));
+    CHECK(build_column(&t, true, no_seam, &c) == 0 && same(c.curve.tail[2], 0.2));
+    CHECK(same(c.column[3], c.curve.tail[1] + c.curve.tail[0] * (0.3 - 0.2)));
+
+    /* a column that is a knot too short is told last, and nothing is written */
+    CHECK(build_column_in(&three, false, no_seam, NODES, 2, 4, 2, &c) == HAVGRUNEL_BUFFER_TOO_SHORT && columned_untouched(&c));
+    CHECK(build_column_in(&three, false, no_seam, NODES, 2, 4, 0, &c) == HAVGRUNEL_BUFFER_TOO_SHORT && columned_untouched(&c));
+    CHECK(build_column_in(&three, false, no_seam, 2, 2, 4, 3, &c) == HAVGRUNEL_BUFFER_TOO_SHORT && columned_untouched(&c));
+    CHECK(build_column_in(&three, false, no_seam, NODES, 0, 4, 3, &c) == HAVGRUNEL_BUFFER_TOO_SHORT && columned_untouched(&c));
+    CHECK(build_column_in(&three, false, no_seam, NODES, 2, 2, 3, &c) == HAVGRUNEL_BUFFER_TOO_SHORT && columned_untouched(&c));
+    CHECK(build_column_in(&three, false, no_seam, NODES, 1, 3, 3, &c) == 0);
+    const struct seam long_seam = {true, 2, 1.0};
+    CHECK(build_column_in(&three, false, long_seam, NODES, 2, 4, 0, &c) == HAVGRUNEL_SEAM_TOO_LONG && columned_untouched(&c));
+    t = three;
+    t.monotonicity = 2.0;
+    CHECK(build_column_in(&t, false, no_seam, NODES, 2, 4, 0, &c) == HAVGRUNEL_MONOTONICITY_OUTSIDE && columned_untouched(&c));
+    CHECK(build_column_in(&t, false, no_seam, NODES, 0, 0, 0, &c) == HAVGRUNEL_MONOTONICITY_OUTSIDE && columned_untouched(&c));
+    t.averages_count = 2;
+    CHECK(build_column_in(&t, false, no_seam, NODES, 2, 4, 0, &c) == HAVGRUNEL_LENGTHS_DIFFER && columned_untouched(&c));
+    t.split = 3;
+    CHECK(build_column_in(&t, false, no_seam, NODES, 2, 4, 0, &c) == HAVGRUNEL_SPLIT_UNKNOWN && columned_untouched(&c));
+    CHECK(build_column_in(&t, false, no_seam, NODES, 0, 0, 0, &c) == HAVGRUNEL_SPLIT_UNKNOWN && columned_untouched(&c));
+
+    /* a growing table: the first window, then one that goes on from it, then the last, which is not held */
+    struct columned first;
+    struct columned second;
+    t = (struct table){knots, 3, averages, 3, 0.3, 0.7, true, HAVGRUNEL_SPLIT_ORIGINAL};
+    fill(&without);
+    CHECK(grow_column_in(&t, 2, false, 0, &without, 4, NODES, &first) == 0);
+    CHECK(grow(&t, 2, 5, false, 0, false, &first.curve, &without) == 0);
+    check_column(&t, &first, &without);
+    t.knots_count = t.averages_count = 4;
+    CHECK(grow_column_in(&t, 2, true, 2, &first.curve, 4, NODES, &second) == 0);
+    CHECK(grow(&t, 2, 5, true, 2, true, &first.curve, &without) == 0);
+    check_column(&t, &second, &without);
+    t.knots_count = t.averages_count = 5;
+    CHECK(grow_column_in(&t, 2, true, 3, &second.curve, 4, NODES, &first) == 0);
+    CHECK(grow(&t, 2, 5, true, 3, true, &second.curve, &without) == 0);
+    check_column(&t, &first, &without);
+
+    CHECK(grow_column_in(&t, 2, true, 3, &second.curve, 4, 4, &c) == HAVGRUNEL_BUFFER_TOO_SHORT && columned_untouched(&c));
+    CHECK(grow_column_in(&t, 2, true, 3, &second.curve, 2, 5, &c) == HAVGRUNEL_BUFFER_TOO_SHORT && columned_untouched(&c));
+    CHECK(grow_column_in(&t, 2, false, 3, &second.curve, 4, 0, &c) == HAVGRUNEL_NO_PREVIOUS_CURVE && columned_untouched(&c));
+    CHECK(grow_column_in(&t, 2, false, 3, &second.curve, 0, 0, &c) == HAVGRUNEL_NO_PREVIOUS_CURVE && columned_untouched(&c));
+    t.averages_count = 4;
+    CHECK(grow_column_in(&t, 2, true, 3, &second.curve, 4, 0, &c) == HAVGRUNEL_LENGTHS_DIFFER && columned_untouched(&c));
+    second.curve.tags[1] = 0x0001;
+    CHECK(grow_column_in(&t, 2, true, 3, &second.curve, 4, 0, &c) == HAVGRUNEL_RECORD_NOT_LEGAL && columned_untouched(&c));
+    t.split = 3;
+    CHECK(grow_column_in(&t, 2, true, 3, &second.curve, 4, 0, &c) == HAVGRUNEL_SPLIT_UNKNOWN && columned_untouched(&c));
+}
+
+/* One strip, and strips between places, refused. */
+static void refused_strips(void)
+{
+    struct columned c;
+    CHECK(build_column(&three, false, no_seam, &c) == 0);
+    struct curve *const curve = &c.curve;
+
+    /* all of a's refusals, then all of b's, then the ends' */
+    CHECK(strip_refused(&three, curve, false, NAN, NAN, HAVGRUNEL_QUERY_NOT_A_NUMBER));
+    CHECK(strip_refused(&three, curve, false, -1.0, NAN, HAVGRUNEL_QUERY_OUTSIDE));
+    CHECK(strip_refused(&three, curve, false, NAN, 2.5, HAVGRUNEL_QUERY_NOT_A_NUMBER));
+    CHECK(strip_refused(&three, curve, true, 2.5, NAN, HAVGRUNEL_QUERY_NOT_A_NUMBER));
+    CHECK(strip_refused(&three, curve, false, 1.0, 2.5, HAVGRUNEL_QUERY_OUTSIDE));
+    CHECK(strip_refused(&three, curve, false, 2.5, 1.0, HAVGRUNEL_QUERY_OUTSIDE));
+    CHECK(strip_refused(&three, curve, false, 1.0, -1.0, HAVGRUNEL_QUERY_OUTSIDE));
+    CHECK(strip_refused(&three, curve, false, 1.0, 1.0, HAVGRUNEL_STRIP_ENDS_NOT_RISING));
+    CHECK(strip_refused(&three, curve, false, 1.5, 0.5, HAVGRUNEL_STRIP_ENDS_NOT_RISING));
+    CHECK(strip_refused(&three, curve, true, 3.0, -1.0, HAVGRUNEL_STRIP_ENDS_NOT_RISING));
+    CHECK(strip_refused(&three, curve, true, 0.0, -0.0, HAVGRUNEL_STRIP_ENDS_NOT_RISING));
+    curve->tags[1] = 0;
+    CHECK(strip_refused(&three, curve, false, 1.5, NAN, HAVGRUNEL_RECORD_NOT_LEGAL));
+    CHECK(strip_refused(&three, curve, false, 0.5, 1.5, HAVGRUNEL_RECORD_NOT_LEGAL));
+    CHECK(strip_refused(&three, curve, false, 1.5, 0.5, HAVGRUNEL_RECORD_NOT_LEGAL));
+    CHECK(strip_refused(&three, curve, false, 2.0, 1.5, HAVGRUNEL_RECORD_NOT_LEGAL));
+    CHECK(strip_refused(&three, curve, false, 0.75, 0.5, HAVGRUNEL_STRIP_ENDS_NOT_RISING));
+    CHECK(strip_by_totals(&three, curve, false, 0.5, 2.0));
+
+    /* the curve's own refusals come first, by ends and by places */
+    const double level[] = {0.0, 1.0, 1.0};
+    const double infinite[] = {0.0, 1.0, INFINITY};
+    double *const days = calloc(HAVGRUNEL_MOST_POINTS + 1, sizeof *days);
+    if (days == NULL) {
+        CHECK(days != NULL);
+        return;
+    }
+    for (size_t i = 0; i <= HAVGRUNEL_MOST_POINTS; i++)
+        days[i] = (double)i;
+    const struct {
+        const double *knots;
+        size_t count;
+        uint8_t refusal;
+    } faults[] = {
+        {three_knots, 1, HAVGRUNEL_TOO_FEW_POINTS},
+        {NULL, 0, HAVGRUNEL_TOO_FEW_POINTS},
+        {infinite, 3, HAVGRUNEL_KNOT_NOT_FINITE},
+        {level, 3, HAVGRUNEL_KNOTS_NOT_RISING},
+        {days, HAVGRUNEL_MOST_POINTS + 1, HAVGRUNEL_TOO_MANY_POINTS},
+    };
+    double v = -1.0;
+    for (size_t k = 0; k < sizeof faults / sizeof *faults; k++) {
+        struct table t = three;
+        t.knots = faults[k].knots;
+        t.knots_count = faults[k].count;
+        for (size_t room = 0; room < 2; room++) {
+            CHECK(strip(&t, curve, false, NAN, NAN, &v, room) == faults[k].refusal);
+            CHECK(strips(&t, curve, false, level, 1, level + 1, 1, &v, room) == faults[k].refusal);
+            CHECK(strips(&t, curve, false, level, 2, level + 1, 1, &v, room) == HAVGRUNEL_LENGTHS_DIFFER);
+            CHECK(ask_many(havgrunel_strip_run, &t, curve, false, level, 2, &v, room) == faults[k].refusal);
+            CHECK(havgrunel_strip_between(t.knots, t.knots_count, c.column, 0, 9, 9, &v, room) == faults[k].refusal);
+        }
+        CHECK(ask_many(havgrunel_strip_run, &t, curve, false, NULL, 0, NULL, 0) == faults[k].refusal);
+    }
+    free(days);
+
+    /* what is short is an 11, before the ends are looked at */
+    CHECK(strip(&three, curve, false, NAN, NAN, NULL, 0) == HAVGRUNEL_BUFFER_TOO_SHORT);
+    CHECK(havgrunel_strip(three_knots, 3, curve->tags, 1, curve->slots, TWO, 0.0, 0.0, 0.0, false, NAN, 0.5, &v, 1) == HAVGRUNEL_BUFFER_TOO_SHORT);
+    CHECK(havgrunel_strip(three_knots, 3, curve->tags, 2, curve->slots, TWO - 1, 0.0, 0.0, 0.0, false, 0.5, 0.5, &v, 1) == HAVGRUNEL_BUFFER_TOO_SHORT);
+    CHECK(havgrunel_strip_between(three_knots, 3, c.column, 2, 0, 1, &v, 1) == HAVGRUNEL_BUFFER_TOO_SHORT);
+    CHECK(havgrunel_strip_between(three_knots, 3, c.column, 2, 1, 1, &v, 1) == HAVGRUNEL_BUFFER_TOO_SHORT);
+    CHECK(havgrunel_strip_between(three_knots, 3, c.column, 3, 1, 1, NULL, 0) == HAVGRUNEL_BUFFER_TOO_SHORT);
+    CHECK(havgrunel_strip_between(three_knots, 3, c.column, 3, SIZE_MAX, 0, &v, 1) == HAVGRUNEL_STRIP_ENDS_NOT_RISING);
+    CHECK(havgrunel_strip_between(three_knots, 3, c.column, 3, 0, SIZE_MAX, &v, 1) == HAVGRUNEL_STRIP_ENDS_NOT_RISING);
+    CHECK(same(v, -1.0));
+    /* no record is looked at between places: its second is not legal here */
+    CHECK(havgrunel_strip_between(three_knots, 3, c.column, 3, 1, 2, &v, 1) == 0 && same(v, 3.0));
+}
+
+static void many_strips(void)
+{
+    struct curve c;
+    CHECK(build(&three, false, &c) == 0);
+    double v = -1.0;
+    CHECK(strip(&three, &c, false, 0.0, 1.0, &v, 1) == 0 && same(v, 1.0));
+    CHECK(strip(&three, &c, false, 1.0, 2.0, &v, 1) == 0 && same(v, 3.0));
+    CHECK(strip(&three, &c, false, 0.0, 2.0, &v, 1) == 0 && same(v, 2.0));
+    CHECK(strip(&three, &c, true, 2.0, 4.0, &v, 1) == 0 && same(v, 3.5));
+
+    /* one by one, at once and as a run: in the knots and outside them, within a period and across several */
+    const double edges[] = {-2.0, -0.5, 0.0, 0.1, 0.7, 1.0, 1.3, 1.9, 2.0, 2.25, 7.0};
+    enum { EDGES = sizeof edges / sizeof *edges };
+    double starts[EDGES * EDGES];
+    double ends[EDGES * EDGES];
+    double many[EDGES * EDGES + 1];
+    double run[EDGES];
+    for (int hold = 0; hold < 2; hold++) {
+        CHECK(build(&three, hold == 1, &c) == 0);
+        size_t count = 0;
+        for (size_t i = EDGES; i-- > 0;) {
+            for (size_t j = i + 1; j < EDGES; j++) {
+                CHECK(strip_by_totals(&three, &c, true, edges[i], edges[j]));
+                starts[count] = edges[i];
+                ends[count++] = edges[j];
+            }
+        }
+        many[count] = -1.0;
+        CHECK(strips(&three, &c, true, starts, count, ends, count, many, count + 1) == 0 && same(many[count], -1.0));
+        for (size_t k = 0; k < count; k++)
+            CHECK(strip(&three, &c, true, starts[k], ends[k], &v, 1) == 0 && same(many[k], v));
+        run[EDGES - 1] = -1.0;
+        CHECK(ask_many(havgrunel_strip_run, &three, &c, true, edges, EDGES, run, EDGES) == 0 && same(run[EDGES - 1], -1.0));
+        for (size_t k = 0; k + 1 < EDGES; k++)
+            CHECK(strip(&three, &c, true, edges[k], edges[k + 1], &v, 1) == 0 && same(run[k], v));
+    }
+
+    /* no strip */
+    CHECK(strips(&three, &c, false, NULL, 0, NULL, 0, NULL, 0) == 0);
+    CHECK(ask_many(havgrunel_strip_run, &three, &c, false, NULL, 0, NULL, 0) == 0);
+    const double nothing = NAN;
+    CHECK(ask_many(havgrunel_strip_run, &three, &c, false, &nothing, 1, NULL, 0) == 0);
+
+    /* the first strip that is refused refuses all: by its start, its end, and then by both */
+    const struct {
+        double starts[3];
+        double ends[3];
+        uint8_t refusal;
+    } bad[] = {
+        {{0.0, 0.5, NAN}, {1.0, 0.5, NAN}, HAVGRUNEL_STRIP_ENDS_NOT_RISING},
+        {{0.0, NAN, 1.0}, {1.0, 9.0, 0.0}, HAVGRUNEL_QUERY_NOT_A_NUMBER},
+        {{0.0, 9.0, 1.0}, {1.0, NAN, 0.0}, HAVGRUNEL_QUERY_OUTSIDE},
+        {{0.0, 1.0, NAN}, {1.0, -1.0, 0.0}, HAVGRUNEL_QUERY_OUTSIDE},
+        {{0.0, 1.0, 0.0}, {1.0, 2.0, NAN}, HAVGRUNEL_QUERY_NOT_A_NUMBER},
+    };
+    double kept[3] = {-1.0, -1.0, -1.0};
+    for (size_t k = 0; k < sizeof bad / sizeof *bad; k++) {
+        CHECK(strips(&three, &c, false, bad[k].starts, 3, bad[k].ends, 3, kept, 3) == bad[k].refusal);
+        CHECK(strips(&three, &c, false, bad[k].starts, 3, bad[k].ends, 3, kept, 2) == HAVGRUNEL_BUFFER_TOO_SHORT);
+        CHECK(strips(&three, &c, false, bad[k].starts, 3, bad[k].ends, 2, kept, 0) == HAVGRUNEL_LENGTHS_DIFFER);
+    }
+    const struct {
+        double edges[4];
+        uint8_t refusal;
+    } turned[] = {
+        {{0.0, 1.0, 0.5, NAN}, HAVGRUNEL_STRIP_ENDS_NOT_RISING},
+        {{0.0, 1.0, 1.0, 9.0}, HAVGRUNEL_STRIP_ENDS_NOT_RISING},
+        {{NAN, 9.0, 1.0, 0.0}, HAVGRUNEL_QUERY_NOT_A_NUMBER},
+        {{9.0, NAN, 1.0, 0.0}, HAVGRUNEL_QUERY_OUTSIDE},
+        {{1.0, NAN, 0.0, 0.0}, HAVGRUNEL_QUERY_NOT_A_NUMBER},
+        {{0.0, 1.0, 2.0, 9.0}, HAVGRUNEL_QUERY_OUTSIDE},
+        {{0.0, 1.0, 2.0, 1.0}, HAVGRUNEL_STRIP_ENDS_NOT_RISING},
+    };
+    for (size_t k = 0; k < sizeof turned / sizeof *turned; k++) {
+        CHECK(ask_many(havgrunel_strip_run, &three, &c, false, turned[k].edges, 4, kept, 3) == turned[k].refusal);
+        CHECK(ask_many(havgrunel_strip_run, &three, &c, false, turned[k].edges, 4, kept, 2) == HAVGRUNEL_BUFFER_TOO_SHORT);
+    }
+    c.tags[0] = 0xffff;
+    CHECK(strips(&three, &c, false, bad[4].starts, 3, bad[4].ends, 3, kept, 3) == HAVGRUNEL_RECORD_NOT_LEGAL);
+    CHECK(strips(&three, &c, false, bad[4].starts + 1, 2, bad[4].ends + 1, 2, kept, 3) == HAVGRUNEL_RECORD_NOT_LEGAL);
+    CHECK(ask_many(havgrunel_strip_run, &three, &c, false, turned[6].edges, 4, kept, 3) == HAVGRUNEL_RECORD_NOT_LEGAL);
+    CHECK(same(kept[0], -1.0) && same(kept[1], -1.0) && same(kept[2], -1.0));
+    CHECK(ask_many(havgrunel_strip_run, &three, &c, false, turned[6].edges + 1, 2, kept, 1) == 0 && same(kept[0], 3.0));
+}
+
 static void defaults(void)
 {
     CHECK(same(havgrunel_default_quadraticity(), 0.3));
@@ -959,6 +1308,9 @@ int main(void)
     cheap_first_month();
     zero_periods();
     unknown_splits();
+    columns();
+    refused_strips();
+    many_strips();
     if (failures != 0) {
         fprintf(stderr, "c: %d of %d checks don't hold\n", failures, checks);
         return 1;
