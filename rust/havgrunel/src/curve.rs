@@ -10,6 +10,7 @@ pub struct ConvexMonotoneInterpolation {
     nodes: Vec<f64>,
     tags: Vec<u16>,
     slots: Vec<f64>,
+    column: Option<Vec<f64>>,
     curve: Curve,
 }
 
@@ -49,8 +50,14 @@ impl Room {
             nodes: self.nodes,
             tags: self.tags,
             slots: self.slots,
+            column: None,
             curve,
         }
+    }
+
+    /// Room for the column of the same curve.
+    fn column(&self) -> Vec<f64> {
+        vec![0.0; self.nodes.len()]
     }
 }
 
@@ -73,6 +80,17 @@ impl ConvexMonotoneInterpolation {
         Ok(room.holding(x, curve))
     }
 
+    pub(crate) fn built_with_column(
+        x: Vec<f64>,
+        y: &[f64],
+        method: ConvexMonotone,
+    ) -> Result<Self, Refusal> {
+        let mut room = Room::new(x.len());
+        let mut column = room.column();
+        let curve = lent::build_with_column(&x, y, method, false, None, room.lent(), &mut column)?;
+        Ok(room.holding(x, curve).with_column(column))
+    }
+
     pub(crate) fn built_in_sheets(
         x: Vec<f64>,
         y: &[f64],
@@ -93,22 +111,54 @@ impl ConvexMonotoneInterpolation {
         final_size: usize,
     ) -> Result<Self, Refusal> {
         let mut room = Room::new(x.len());
-        let previous = prev.map(|prev| Previous {
-            sections: prev.curve.sections,
-            held: prev.curve.held,
-            tags: &prev.tags,
-            slots: &prev.slots,
-        });
         let curve = lent::grow(
             &x,
             y,
             method,
             localisation,
-            previous,
+            prev.map(Self::previous),
             final_size,
             room.lent(),
         )?;
         Ok(room.holding(x, curve))
+    }
+
+    pub(crate) fn grown_with_column(
+        x: Vec<f64>,
+        y: &[f64],
+        method: ConvexMonotone,
+        localisation: usize,
+        prev: Option<&Self>,
+        final_size: usize,
+    ) -> Result<Self, Refusal> {
+        let mut room = Room::new(x.len());
+        let mut column = room.column();
+        let curve = lent::grow_with_column(
+            &x,
+            y,
+            method,
+            localisation,
+            prev.map(Self::previous),
+            final_size,
+            room.lent(),
+            &mut column,
+        )?;
+        Ok(room.holding(x, curve).with_column(column))
+    }
+
+    /// What a table that grows takes of this curve.
+    fn previous(&self) -> Previous<'_> {
+        Previous {
+            sections: self.curve.sections,
+            held: self.curve.held,
+            tags: &self.tags,
+            slots: &self.slots,
+        }
+    }
+
+    fn with_column(self, column: Vec<f64>) -> Self {
+        let column = Some(column);
+        ConvexMonotoneInterpolation { column, ..self }
     }
 
     /// The same curve, with places outside its knots allowed or not. A curve is made with them off.
@@ -156,6 +206,60 @@ impl ConvexMonotoneInterpolation {
         )
     }
 
+    /// The average price from `a` to `b`: the total up to `b` less the total up to `a`, divided by `b - a`, each step rounded once. Refused as
+    /// [`primitive`](Self::primitive) is at `a`, then as it is at `b`, then by 18 unless `a` is below `b`.
+    ///
+    /// ```
+    /// use havgrunel::ConvexMonotone;
+    ///
+    /// let curve = ConvexMonotone::new(0.0, 1.0, false).interpolate(&[0.0, 1.0, 2.0], &[0.0, 1.0, 3.0])?;
+    /// assert_eq!(curve.strip(1.0, 2.0)?, 3.0);
+    /// assert_eq!(curve.strip(0.5, 2.0)?, (4.0 - curve.primitive(0.5)?) / 1.5);
+    /// assert_eq!(curve.strip(2.0, 1.0).unwrap_err().number(), 18);
+    ///
+    /// // The two halves of the second month.
+    /// let mut halves = [0.0; 2];
+    /// curve.strip_run(&[1.0, 1.5, 2.0], &mut halves)?;
+    /// assert_eq!(halves, [curve.strip(1.0, 1.5)?, curve.strip(1.5, 2.0)?]);
+    /// # Ok::<(), havgrunel::Refusal>(())
+    /// ```
+    pub fn strip(&self, a: f64, b: f64) -> Result<f64, Refusal> {
+        lent::strip(&self.knots, &self.curve, &self.tags, &self.slots, a, b)
+    }
+
+    /// The average price from each of `starts` to the number beside it in `ends`, into the first entries of `answers`; all or nothing
+    /// ([`lent::strips`]).
+    pub fn strips(&self, starts: &[f64], ends: &[f64], answers: &mut [f64]) -> Result<(), Refusal> {
+        lent::strips(
+            &self.knots,
+            &self.curve,
+            &self.tags,
+            &self.slots,
+            starts,
+            ends,
+            answers,
+        )
+    }
+
+    /// The average price from each of `edges` to the next, in the same way: one number fewer than edges.
+    pub fn strip_run(&self, edges: &[f64], answers: &mut [f64]) -> Result<(), Refusal> {
+        lent::strip_run(
+            &self.knots,
+            &self.curve,
+            &self.tags,
+            &self.slots,
+            edges,
+            answers,
+        )
+    }
+
+    /// The average price from knot `i` to knot `j`, both counted from 0, by two entries of the column: what [`strip`](Self::strip) tells from
+    /// the one knot to the other. Refused by 11 where the curve has no column, then by 18 unless `i` is below `j` and `j` is a knot's
+    /// number.
+    pub fn strip_between(&self, i: usize, j: usize) -> Result<f64, Refusal> {
+        lent::strip_between(&self.knots, self.column().unwrap_or(&[]), i, j)
+    }
+
     /// The method has no derivative, and this is always refused.
     pub fn derivative(&self, x: f64) -> Result<f64, Refusal> {
         lent::derivative(x)
@@ -184,6 +288,12 @@ impl ConvexMonotoneInterpolation {
     /// The price that the method puts at each knot.
     pub fn nodes(&self) -> &[f64] {
         &self.nodes
+    }
+
+    /// The total up to each knot, if the curve was built or grown with a column
+    /// ([`ConvexMonotone::interpolate_with_column`], [`ConvexMonotone::local_interpolate_with_column`]).
+    pub fn column(&self) -> Option<&[f64]> {
+        self.column.as_deref()
     }
 
     /// How many sections there are: one less than knots.

@@ -24,99 +24,121 @@ pub use archive::havgrunel_gas_quadraticity as gas_quadraticity;
 pub use archive::havgrunel_inner_node as inner_node;
 pub use archive::havgrunel_sqrt as sqrt;
 
-#[allow(clippy::too_many_arguments)]
-pub fn build(
-    knots: &[f64],
-    averages: &[f64],
-    method: ConvexMonotone,
-    hold: bool,
-    seam: Option<Seam>,
-    buffers: Buffers<'_>,
-    sections: &mut [usize],
-    tail: &mut [f64],
-) -> u8 {
-    let (count, node) = seam.map_or((0, 0.0), |seam| (seam.count, seam.node));
-    // SAFETY: each pointer and count is one slice's, borrowed until the call is over; what is written is borrowed by no one else.
-    unsafe {
-        archive::havgrunel_build(
-            knots.as_ptr(),
-            knots.len(),
-            averages.as_ptr(),
-            averages.len(),
-            method.quadraticity,
-            method.monotonicity,
-            method.force_positive,
-            method.split.number(),
-            hold,
-            seam.is_some(),
-            count,
-            node,
-            buffers.nodes.as_mut_ptr(),
-            buffers.nodes.len(),
-            buffers.tags.as_mut_ptr(),
-            buffers.tags.len(),
-            buffers.slots.as_mut_ptr(),
-            buffers.slots.len(),
-            sections.as_mut_ptr(),
-            sections.len(),
-            tail.as_mut_ptr(),
-            tail.len(),
-        )
-    }
+macro_rules! builds {
+    ($($name:ident: $exported:ident($($column:ident)?);)*) => {
+        $(#[allow(clippy::too_many_arguments)]
+        pub fn $name(
+            knots: &[f64],
+            averages: &[f64],
+            method: ConvexMonotone,
+            hold: bool,
+            seam: Option<Seam>,
+            buffers: Buffers<'_>,
+            sections: &mut [usize],
+            tail: &mut [f64],
+            $($column: &mut [f64],)?
+        ) -> u8 {
+            let (count, node) = seam.map_or((0, 0.0), |seam| (seam.count, seam.node));
+            // SAFETY: each pointer and count is one slice's, borrowed until the call is over; what is written is borrowed by no one else.
+            unsafe {
+                archive::$exported(
+                    knots.as_ptr(),
+                    knots.len(),
+                    averages.as_ptr(),
+                    averages.len(),
+                    method.quadraticity,
+                    method.monotonicity,
+                    method.force_positive,
+                    method.split.number(),
+                    hold,
+                    seam.is_some(),
+                    count,
+                    node,
+                    buffers.nodes.as_mut_ptr(),
+                    buffers.nodes.len(),
+                    buffers.tags.as_mut_ptr(),
+                    buffers.tags.len(),
+                    buffers.slots.as_mut_ptr(),
+                    buffers.slots.len(),
+                    sections.as_mut_ptr(),
+                    sections.len(),
+                    tail.as_mut_ptr(),
+                    tail.len(),
+                    $($column.as_mut_ptr(), $column.len(),)?
+                )
+            }
+        })*
+    };
 }
 
-#[allow(clippy::too_many_arguments)]
-pub fn grow(
-    knots: &[f64],
-    averages: &[f64],
-    method: ConvexMonotone,
-    localisation: usize,
-    final_size: usize,
-    previous: Option<Previous<'_>>,
-    buffers: Buffers<'_>,
-    sections: &mut [usize],
-    tail: &mut [f64],
-) -> u8 {
-    let grown = previous.is_some();
-    let previous = previous.unwrap_or(Previous {
-        sections: 0,
-        held: false,
-        tags: &[],
-        slots: &[],
-    });
-    // SAFETY: each pointer and count is one slice's, borrowed until the call is over; what is written is borrowed by no one else,
-    // the previous curve included.
-    unsafe {
-        archive::havgrunel_grow(
-            knots.as_ptr(),
-            knots.len(),
-            averages.as_ptr(),
-            averages.len(),
-            method.quadraticity,
-            method.monotonicity,
-            method.force_positive,
-            method.split.number(),
-            localisation,
-            final_size,
-            grown,
-            previous.sections,
-            previous.held,
-            previous.tags.as_ptr(),
-            previous.tags.len(),
-            previous.slots.as_ptr(),
-            previous.slots.len(),
-            buffers.nodes.as_mut_ptr(),
-            buffers.nodes.len(),
-            buffers.tags.as_mut_ptr(),
-            buffers.tags.len(),
-            buffers.slots.as_mut_ptr(),
-            buffers.slots.len(),
-            sections.as_mut_ptr(),
-            sections.len(),
-            tail.as_mut_ptr(),
-            tail.len(),
-        )
-    }
+builds! {
+    build: havgrunel_build();
+    build_with_column: havgrunel_build_with_column(column);
+}
+
+macro_rules! growths {
+    ($($name:ident: $exported:ident($($column:ident)?);)*) => {
+        $(#[allow(clippy::too_many_arguments)]
+        pub fn $name(
+            knots: &[f64],
+            averages: &[f64],
+            method: ConvexMonotone,
+            localisation: usize,
+            final_size: usize,
+            previous: Option<Previous<'_>>,
+            buffers: Buffers<'_>,
+            sections: &mut [usize],
+            tail: &mut [f64],
+            $($column: &mut [f64],)?
+        ) -> u8 {
+            let grown = previous.is_some();
+            let previous = previous.unwrap_or(Previous {
+                sections: 0,
+                held: false,
+                tags: &[],
+                slots: &[],
+            });
+            // SAFETY: each pointer and count is one slice's, borrowed until the call is over; what is written is borrowed by no one else,
+            // the previous curve included.
+            unsafe {
+                archive::$exported(
+                    knots.as_ptr(),
+                    knots.len(),
+                    averages.as_ptr(),
+                    averages.len(),
+                    method.quadraticity,
+                    method.monotonicity,
+                    method.force_positive,
+                    method.split.number(),
+                    localisation,
+                    final_size,
+                    grown,
+                    previous.sections,
+                    previous.held,
+                    previous.tags.as_ptr(),
+                    previous.tags.len(),
+                    previous.slots.as_ptr(),
+                    previous.slots.len(),
+                    buffers.nodes.as_mut_ptr(),
+                    buffers.nodes.len(),
+                    buffers.tags.as_mut_ptr(),
+                    buffers.tags.len(),
+                    buffers.slots.as_mut_ptr(),
+                    buffers.slots.len(),
+                    sections.as_mut_ptr(),
+                    sections.len(),
+                    tail.as_mut_ptr(),
+                    tail.len(),
+                    $($column.as_mut_ptr(), $column.len(),)?
+                )
+            }
+        })*
+    };
+}
+
+growths! {
+    grow: havgrunel_grow();
+    grow_with_column: havgrunel_grow_with_column(column);
 }
 
 pub fn sheet(
@@ -193,13 +215,13 @@ pub fn build_in_sheets(
 }
 
 macro_rules! queries {
-    ($($name:ident: $exported:ident;)*) => {
+    ($($name:ident: $exported:ident($($at:ident),*);)*) => {
         $(pub fn $name(
             knots: &[f64],
             tags: &[u16],
             slots: &[f64],
             curve: &Curve,
-            x: f64,
+            $($at: f64,)*
             answer: &mut [f64],
         ) -> u8 {
             // SAFETY: each pointer and count is one slice's, borrowed until the call is over; the answer's is borrowed by no one else.
@@ -215,7 +237,7 @@ macro_rules! queries {
                     curve.tail.total,
                     curve.tail.from,
                     curve.extrapolates,
-                    x,
+                    $($at,)*
                     answer.as_mut_ptr(),
                     answer.len(),
                 )
@@ -225,18 +247,19 @@ macro_rules! queries {
 }
 
 queries! {
-    value: havgrunel_value;
-    primitive: havgrunel_primitive;
+    value: havgrunel_value(x);
+    primitive: havgrunel_primitive(x);
+    strip: havgrunel_strip(a, b);
 }
 
 macro_rules! many_queries {
-    ($($name:ident: $exported:ident;)*) => {
+    ($($name:ident: $exported:ident($($at:ident),*);)*) => {
         $(pub fn $name(
             knots: &[f64],
             tags: &[u16],
             slots: &[f64],
             curve: &Curve,
-            xs: &[f64],
+            $($at: &[f64],)*
             answers: &mut [f64],
         ) -> u8 {
             // SAFETY: each pointer and count is one slice's, borrowed until the call is over; the answers' is borrowed by no one else.
@@ -252,8 +275,7 @@ macro_rules! many_queries {
                     curve.tail.total,
                     curve.tail.from,
                     curve.extrapolates,
-                    xs.as_ptr(),
-                    xs.len(),
+                    $($at.as_ptr(), $at.len(),)*
                     answers.as_mut_ptr(),
                     answers.len(),
                 )
@@ -263,8 +285,26 @@ macro_rules! many_queries {
 }
 
 many_queries! {
-    values: havgrunel_values;
-    primitives: havgrunel_primitives;
+    values: havgrunel_values(xs);
+    primitives: havgrunel_primitives(xs);
+    strips: havgrunel_strips(starts, ends);
+    strip_run: havgrunel_strip_run(edges);
+}
+
+pub fn strip_between(knots: &[f64], column: &[f64], i: usize, j: usize, answer: &mut [f64]) -> u8 {
+    // SAFETY: each pointer and count is one slice's, borrowed until the call is over; the answer's is borrowed by no one else.
+    unsafe {
+        archive::havgrunel_strip_between(
+            knots.as_ptr(),
+            knots.len(),
+            column.as_ptr(),
+            column.len(),
+            i,
+            j,
+            answer.as_mut_ptr(),
+            answer.len(),
+        )
+    }
 }
 
 pub fn record(points: usize, slots: &[f64], number: usize, into: &mut [f64]) -> u8 {

@@ -160,6 +160,61 @@ pub fn grow(
     Ok(told.curve(knots.len() != final_size))
 }
 
+/// Builds the curve of a table as [`build`] does, and writes its column: the total up to each knot, as [`primitive`] answers it there, into
+/// the first entries of `column`. Refused as [`build`] is; a `column` that is shorter than the knots is an 11 as well.
+pub fn build_with_column(
+    knots: &[f64],
+    averages: &[f64],
+    method: ConvexMonotone,
+    hold: bool,
+    seam: Option<Seam>,
+    buffers: Buffers<'_>,
+    column: &mut [f64],
+) -> Result<Curve, Refusal> {
+    let mut told = Told::new();
+    Refusal::told(ffi::build_with_column(
+        knots,
+        averages,
+        method,
+        hold,
+        seam,
+        buffers,
+        &mut told.sections,
+        &mut told.tail,
+        column,
+    ))?;
+    Ok(told.curve(hold))
+}
+
+/// Builds the next curve of a table that grows as [`grow`] does, and its column as [`build_with_column`] does, refused as [`grow`] is; a
+/// `column` that is shorter than the knots is an 11 as well.
+#[allow(clippy::too_many_arguments)]
+pub fn grow_with_column(
+    knots: &[f64],
+    averages: &[f64],
+    method: ConvexMonotone,
+    localisation: usize,
+    previous: Option<Previous<'_>>,
+    final_size: usize,
+    buffers: Buffers<'_>,
+    column: &mut [f64],
+) -> Result<Curve, Refusal> {
+    let mut told = Told::new();
+    Refusal::told(ffi::grow_with_column(
+        knots,
+        averages,
+        method,
+        localisation,
+        final_size,
+        previous,
+        buffers,
+        &mut told.sections,
+        &mut told.tail,
+        column,
+    ))?;
+    Ok(told.curve(knots.len() != final_size))
+}
+
 /// Builds one sheet of a table: a part of its knots and averages, written into its place in the buffers of the whole. Sheets that
 /// are handed the whole's nodes at their cuts ([`inner_node`]) and the totals before them leave what a build of the whole leaves,
 /// in whatever order they are built. Refused in the order 16, 1 to 7, 10, 11.
@@ -261,6 +316,62 @@ pub fn primitives(
     answers: &mut [f64],
 ) -> Result<(), Refusal> {
     Refusal::told(ffi::primitives(knots, tags, slots, curve, xs, answers))
+}
+
+/// The average price from `a` to `b`: the total up to `b` less the total up to `a`, divided by `b - a`, each step rounded once. The knots are
+/// checked once for both ends. Refused in the order 4, 5, 7, 10, 11, 12, 13, 15 for `a`; then 12, 13, 15 for `b`; then 18 unless `a` is
+/// below `b`.
+pub fn strip(
+    knots: &[f64],
+    curve: &Curve,
+    tags: &[u16],
+    slots: &[f64],
+    a: f64,
+    b: f64,
+) -> Result<f64, Refusal> {
+    let mut answer = [0.0];
+    Refusal::told(ffi::strip(knots, tags, slots, curve, a, b, &mut answer))?;
+    Ok(answer[0])
+}
+
+/// The average price from each of `starts` to the number beside it in `ends`, into the first entries of `answers`, each as [`strip`] tells
+/// it. Refused by 1 where there are not as many `ends` as `starts`; then in the order 4, 5, 7, 10, 11, which also tells that `answers` is
+/// shorter than these; then as the first strip is that is refused, and then nothing is written.
+pub fn strips(
+    knots: &[f64],
+    curve: &Curve,
+    tags: &[u16],
+    slots: &[f64],
+    starts: &[f64],
+    ends: &[f64],
+    answers: &mut [f64],
+) -> Result<(), Refusal> {
+    Refusal::told(ffi::strips(
+        knots, tags, slots, curve, starts, ends, answers,
+    ))
+}
+
+/// The average price from each of `edges` to the next, in the same way: one number fewer than edges, and none where there is no edge. Each
+/// edge is asked once.
+pub fn strip_run(
+    knots: &[f64],
+    curve: &Curve,
+    tags: &[u16],
+    slots: &[f64],
+    edges: &[f64],
+    answers: &mut [f64],
+) -> Result<(), Refusal> {
+    Refusal::told(ffi::strip_run(knots, tags, slots, curve, edges, answers))
+}
+
+/// The average price from knot `i` to knot `j`, both counted from 0: the difference of the two entries of the curve's column over that of
+/// the two knots, each step rounded once. With the column that was written with the curve it is what [`strip`] tells from the one knot to
+/// the other. Refused in the order 4, 5, 7, 10, 11 for a `column` that is shorter than the knots, 18 unless `i` is below `j` and `j` is a
+/// knot's number.
+pub fn strip_between(knots: &[f64], column: &[f64], i: usize, j: usize) -> Result<f64, Refusal> {
+    let mut answer = [0.0];
+    Refusal::told(ffi::strip_between(knots, column, i, j, &mut answer))?;
+    Ok(answer[0])
 }
 
 /// The method has no derivative, and this is always refused.

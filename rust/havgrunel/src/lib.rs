@@ -18,6 +18,9 @@
 //! A long table may be built in sheets, and gives the very same curve: see [`ConvexMonotone::interpolate_in_sheets`] and
 //! [`ConvexMonotone::sheet`].
 //!
+//! The average price from one day to another is [`ConvexMonotoneInterpolation::strip`]. A curve that is built by
+//! [`ConvexMonotone::interpolate_with_column`] keeps the total up to each knot, for strips between knots.
+//!
 //! Where prices are held above zero, [`Split`] says when a period may get a stretch of zero: by the original's rule, only
 //! where the period then keeps its average, or such that no period falls below zero and none loses its average.
 //!

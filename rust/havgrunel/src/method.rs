@@ -122,8 +122,36 @@ impl ConvexMonotone {
         ConvexMonotoneInterpolation::built(x.to_vec(), y, *self)
     }
 
+    /// The curve that [`interpolate`](Self::interpolate) makes, and beside it its [`column`](ConvexMonotoneInterpolation::column): the total up
+    /// to each knot, as [`primitive`](ConvexMonotoneInterpolation::primitive) answers it there. A strip between two knots then reads two
+    /// entries of it.
+    ///
+    /// ```
+    /// use havgrunel::{ConvexMonotone, Refusal};
+    ///
+    /// let (x, y) = ([0.0, 1.0, 2.0], [0.0, 1.0, 3.0]);
+    /// let method = ConvexMonotone::new(0.0, 1.0, false);
+    /// let curve = method.interpolate_with_column(&x, &y)?;
+    /// assert_eq!(curve.column(), Some(&[0.0, 1.0, 4.0][..]));
+    /// assert_eq!(curve.strip_between(0, 2)?, 2.0);
+    /// assert_eq!(curve.strip_between(1, 2)?, curve.strip(1.0, 2.0)?);
+    /// assert_eq!(curve.strip_between(1, 3), Err(Refusal::StripEndsNotRising));
+    ///
+    /// let without = method.interpolate(&x, &y)?;
+    /// assert_eq!(without.column(), None);
+    /// assert_eq!(without.strip_between(0, 2), Err(Refusal::BufferTooShort));
+    /// # Ok::<(), havgrunel::Refusal>(())
+    /// ```
+    pub fn interpolate_with_column(
+        &self,
+        x: &[f64],
+        y: &[f64],
+    ) -> Result<ConvexMonotoneInterpolation, Refusal> {
+        ConvexMonotoneInterpolation::built_with_column(x.to_vec(), y, *self)
+    }
+
     /// The curve of a table, built in sheets that end at the cuts: inner knots, counted from 0, each above the one before. It is
-    /// the curve that [`interpolate`](Self::interpolate) makes, bit for bit.
+    /// the curve that [`interpolate`](Self::interpolate) makes, bit for bit, and has no column.
     ///
     /// ```
     /// use havgrunel::ConvexMonotone;
@@ -167,6 +195,25 @@ impl ConvexMonotone {
         final_size: usize,
     ) -> Result<ConvexMonotoneInterpolation, Refusal> {
         ConvexMonotoneInterpolation::grown(x.to_vec(), y, *self, localisation, prev, final_size)
+    }
+
+    /// The curve that [`local_interpolate`](Self::local_interpolate) makes, with its column. `prev` may be a curve with or without one.
+    pub fn local_interpolate_with_column(
+        &self,
+        x: &[f64],
+        y: &[f64],
+        localisation: usize,
+        prev: Option<&ConvexMonotoneInterpolation>,
+        final_size: usize,
+    ) -> Result<ConvexMonotoneInterpolation, Refusal> {
+        ConvexMonotoneInterpolation::grown_with_column(
+            x.to_vec(),
+            y,
+            *self,
+            localisation,
+            prev,
+            final_size,
+        )
     }
 }
 

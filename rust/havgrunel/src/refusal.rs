@@ -50,6 +50,7 @@ refusals! {
     DerivativeAsked = 14, "the method has no derivative";
     RecordNotLegal = 15, "a record's tag is not legal, or the record is not there";
     NoGivenNode = 16, "a sheet needs a given node at one end at least, and this one has none";
+    StripEndsNotRising = 18, "the strip's first end is not below its second, or a place is past the last knot";
     CutsNotInner = 28, "a cut is not an inner knot of the table, or not above the cut before it";
     AverageBelowZero = 29, "an average is below 0, and no curve at or above 0 can keep it, as the safe split promises";
     SplitUnknown = 30, "the split's number is none of 0, 1 and 2";

@@ -1,12 +1,12 @@
 //! Many queries at once against each by itself: the same numbers, and the refusal of the first that is refused, with nothing written.
 
+mod asked;
 mod drawn;
 
+use asked::{OLD, bits, place};
 use havgrunel::lent::{self, Buffers, Curve};
 use havgrunel::{ConvexMonotone, Refusal, SLOTS};
 use oracle::answers::rng::Rng;
-
-const OLD: f64 = -123.25;
 
 struct Built {
     knots: Vec<f64>,
@@ -39,27 +39,6 @@ fn built(rng: &mut Rng) -> Option<Built> {
         tags,
         slots,
     })
-}
-
-/// A place: at a knot, beside one, anywhere between the ends, seldom outside them, and most seldom not a number at all.
-fn place(rng: &mut Rng, knots: &[f64]) -> f64 {
-    let (first, last) = (knots[0], knots[knots.len() - 1]);
-    let knot = knots[rng.below(knots.len() as u64) as usize];
-    match rng.below(400) {
-        0 => f64::NAN,
-        1 => last + 1.0,
-        2 => f64::NEG_INFINITY,
-        3..=60 => knot,
-        61..=90 => knot.next_up(),
-        91..=120 => knot.next_down(),
-        121..=130 => last,
-        _ => rng.between(first, last),
-    }
-}
-
-fn bits(numbers: &[f64]) -> Vec<u64> {
-    let bits = |n: &f64| if n.is_nan() { u64::MAX } else { n.to_bits() };
-    numbers.iter().map(bits).collect()
 }
 
 type Single = fn(&[f64], &Curve, &[u16], &[f64], f64) -> Result<f64, Refusal>;
