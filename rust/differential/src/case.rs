@@ -25,6 +25,7 @@ pub struct Room {
     pub slots: i32,
     pub sections: i32,
     pub tail: i32,
+    pub column: i32,
 }
 
 /// Where a curve is asked, with places outside its knots refused and with them allowed.
@@ -34,6 +35,17 @@ pub struct Queries {
     pub anywhere: Vec<f64>,
     /// Whether it is asked as well where its sections' formulas change, which is known once it is built.
     pub breaks: bool,
+    pub strips: Strips,
+}
+
+/// Strips that a curve is asked for.
+#[derive(Clone, Default)]
+pub struct Strips {
+    /// From one place to another, with places outside the knots refused and with them allowed.
+    pub inside: Vec<(f64, f64)>,
+    pub anywhere: Vec<(f64, f64)>,
+    /// From one knot to another, by their numbers.
+    pub between: Vec<(usize, usize)>,
 }
 
 /// The curve that a step of growth is handed.
@@ -132,7 +144,11 @@ pub enum Case {
 
 impl Queries {
     fn places(&mut self) -> impl Iterator<Item = &mut f64> {
-        self.inside.iter_mut().chain(&mut self.anywhere)
+        let strips = self.strips.inside.iter_mut();
+        let strips = strips.chain(&mut self.strips.anywhere);
+        let ends = strips.flat_map(|(a, b)| [a, b]);
+        let asked = self.inside.iter_mut().chain(&mut self.anywhere);
+        asked.chain(ends)
     }
 }
 
@@ -221,6 +237,7 @@ impl Display for Room {
             ("slots", self.slots),
             ("section counts", self.sections),
             ("record entries", self.tail),
+            ("column entries", self.column),
         ] {
             if room != 0 {
                 writeln!(f, "  {name} lent: {room:+} of what is needed")?;
@@ -240,6 +257,21 @@ impl Display for Queries {
         }
         if self.breaks {
             writeln!(f, "  asked where formulas change")?;
+        }
+        write!(f, "{}", self.strips)
+    }
+}
+
+impl Display for Strips {
+    fn fmt(&self, f: &mut Formatter<'_>) -> fmt::Result {
+        for (strips, allow) in [(&self.inside, "off"), (&self.anywhere, "on")] {
+            for &(a, b) in strips {
+                let (a, b) = (Float(a), Float(b));
+                writeln!(f, "  strip from {a} to {b}, extrapolation {allow}")?;
+            }
+        }
+        for (i, j) in &self.between {
+            writeln!(f, "  strip from knot {i} to knot {j}")?;
         }
         Ok(())
     }

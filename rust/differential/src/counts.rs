@@ -6,15 +6,18 @@ use oracle::legal_tags;
 
 use crate::at_knots::Asked;
 use crate::expected::{AVERAGE_BELOW_ZERO, Seen, Splits};
+use crate::strip::STRIP_ENDS_NOT_RISING;
 use at_knots::AtKnots;
 use havgrunel::Split;
 use safe::Safe;
+use strips::Strips;
 
 mod at_knots;
 pub mod safe;
+pub mod strips;
 
 /// Refusal numbers that curves, records and sheets can meet.
-const REFUSALS: [u8; 18] = [
+const REFUSALS: [u8; 19] = [
     1,
     2,
     3,
@@ -31,6 +34,7 @@ const REFUSALS: [u8; 18] = [
     14,
     15,
     16,
+    STRIP_ENDS_NOT_RISING,
     CUTS_NOT_INNER,
     AVERAGE_BELOW_ZERO,
 ];
@@ -82,6 +86,7 @@ pub struct Counts {
     ratios: [u64; RATIOS.len()],
     pub safe: Safe,
     at_knots: AtKnots,
+    pub strips: Strips,
     refused: [u64; NUMBERS],
     /// Sections of curves, and sections by themselves, by the upper bits of their tags.
     built: [u64; 512],
@@ -156,6 +161,7 @@ impl Default for Counts {
             ratios: [0; RATIOS.len()],
             safe: Safe::default(),
             at_knots: AtKnots::default(),
+            strips: Strips::default(),
             refused: [0; NUMBERS],
             built: [0; 512],
             single: [0; 512],
@@ -242,6 +248,7 @@ impl Counts {
         }
         self.safe.add(&other.safe);
         self.at_knots.add(&other.at_knots);
+        self.strips.add(&other.strips);
         for (mine, others) in [
             (&mut self.refused[..], &other.refused[..]),
             (&mut self.ratios, &other.ratios),
@@ -311,8 +318,8 @@ impl Counts {
                 missing.push(format!("no careful parabola had a ratio {name}"));
             }
         }
-        let rows = self.safe.rows().into_iter().chain(self.at_knots.rows());
-        let none = rows.filter(|(_, count)| *count == 0);
+        let rows = [self.safe.rows(), self.at_knots.rows(), self.strips.rows()];
+        let none = rows.into_iter().flatten().filter(|(_, count)| *count == 0);
         missing.extend(none.map(|(name, _)| format!("none of this: {name}")));
         missing
     }
@@ -359,7 +366,7 @@ impl Display for Counts {
         for (name, mask, bits) in KINDS {
             row(&format!("in curves: {name}"), self.kind(mask, bits))?;
         }
-        for (name, count) in self.at_knots.rows() {
+        for (name, count) in self.at_knots.rows().into_iter().chain(self.strips.rows()) {
             row(&name, count)?;
         }
         for tag in legal_tags() {

@@ -7,6 +7,7 @@ use crate::anew::{Anew, Averages, CONSTANT, FOURTH_SPLIT, OTHER_KIND, OTHER_RATI
 use crate::anew::{RATIO, SPLIT};
 use crate::at_knots::Asked;
 use crate::parabola::Made;
+use crate::strip::Entry;
 use crate::{careful, safe};
 
 /// The refusal that the safe mode adds.
@@ -343,6 +344,20 @@ impl Curve {
         }
         let anew = self.original.place(x).and_then(|place| self.anew(place));
         Ok(anew.map_or(original, |anew| [anew.value(x), anew.primitive(x)]))
+    }
+
+    /// What is told of the total up to each knot.
+    pub fn entries(&self, knots: &[f64]) -> impl Iterator<Item = Entry> {
+        knots.iter().enumerate().map(|(place, &knot)| {
+            let before = place.checked_sub(1);
+            let [_, total] = self.answers(knot).expect("a knot is not refused");
+            Entry {
+                total,
+                by_the_left: self.section_primitive(before.unwrap_or(0), knot),
+                running: before.map_or(0.0, |before| self.at_knots[before][2]),
+                is_last: place + 1 == knots.len(),
+            }
+        })
     }
 
     pub fn derivative(&self, x: f64) -> Result<f64, Refusal> {

@@ -4,6 +4,7 @@ use std::ops::Range;
 
 use havgrunel::SLOTS;
 use havgrunel::lent::Buffers;
+use oracle::words::same;
 
 use crate::case::Room;
 use crate::judge::Mismatch;
@@ -36,7 +37,8 @@ fn needs(points: usize) -> [usize; 5] {
     [points, sections, SLOTS * sections, 1, 3]
 }
 
-fn mark(floats: &mut Vec<f64>, count: usize) {
+/// Puts so many marks into a buffer, and nothing else.
+pub fn mark(floats: &mut Vec<f64>, count: usize) {
     floats.clear();
     floats.extend((0..count).map(old));
 }
@@ -116,6 +118,32 @@ impl Lent {
         Ok(())
     }
 
+    /// That the same stands here as in buffers that were lent as long: the same numbers, and the same places left alone.
+    pub fn same_as(&self, other: &Lent) -> Result<(), Mismatch> {
+        for (name, mine, others) in [
+            ("node", &self.nodes, &other.nodes),
+            ("slot", &self.slots, &other.slots),
+            ("record entry", &self.tail, &other.tail),
+        ] {
+            let alike = |place: usize| {
+                let (mine, other) = (mine[place], others[place]);
+                same(mine, other) && is_old(place, mine) == is_old(place, other)
+            };
+            if let Some(place) = (0..mine.len()).find(|&place| !alike(place)) {
+                let told = format!(
+                    "{name} {place} is {:?} and {:?}",
+                    mine[place], others[place]
+                );
+                return Err(Mismatch::new("a curve with a column", told));
+            }
+        }
+        if (&self.tags, &self.sections) != (&other.tags, &other.sections) {
+            let told = "its tags or its count of sections".into();
+            return Err(Mismatch::new("a curve with a column", told));
+        }
+        Ok(())
+    }
+
     /// Whether nodes, tags or slots are too short for so many points.
     pub fn short_for_sheets(&self, points: usize) -> bool {
         let [nodes, tags, slots, ..] = needs(points);
@@ -151,5 +179,21 @@ impl Lent {
         marked("node", &self.nodes, node..usize::MAX)?;
         marked_tags(&self.tags, section..usize::MAX)?;
         marked("slot", &self.slots, SLOTS * section..usize::MAX)
+    }
+}
+
+/// Buffers with room for a column.
+#[derive(Default)]
+pub struct Columned {
+    pub lent: Lent,
+    pub column: Vec<f64>,
+}
+
+impl Columned {
+    /// Lends buffers for so many points, with the marks in them.
+    pub fn lend(&mut self, points: usize, room: &Room) {
+        self.lent.lend(points, room);
+        let entries = points.saturating_add_signed(room.column as isize);
+        mark(&mut self.column, entries);
     }
 }

@@ -15,3 +15,4 @@ pub mod parabola;
 pub mod roots;
 pub mod safe;
 pub mod shrink;
+pub mod strip;

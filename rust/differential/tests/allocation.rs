@@ -34,6 +34,7 @@ fn lent_calls_take_no_memory() {
     let method = ConvexMonotone::default();
     let (mut nodes, mut tags, mut slots) = ([0.0; 4], [0; 3], [0.0; 3 * SLOTS]);
     let (mut next_nodes, mut next_tags, mut next_slots) = (nodes, tags, slots);
+    let (mut column, mut prices) = ([0.0; 4], [0.0; 2]);
     let before = TAKEN.get();
 
     let buffers = Buffers {
@@ -41,7 +42,7 @@ fn lent_calls_take_no_memory() {
         tags: &mut tags,
         slots: &mut slots,
     };
-    let held = lent::build(&x[..3], &y[..3], method, true, None, buffers);
+    let held = lent::build_with_column(&x[..3], &y[..3], method, true, None, buffers, &mut column);
     let previous = Previous {
         sections: 2,
         held: true,
@@ -53,7 +54,7 @@ fn lent_calls_take_no_memory() {
         tags: &mut next_tags,
         slots: &mut next_slots,
     };
-    let grown = lent::grow(&x, &y, method, 2, Some(previous), 4, buffers);
+    let grown = lent::grow_with_column(&x, &y, method, 2, Some(previous), 4, buffers, &mut column);
     let refused = lent::build(
         &x,
         &y[..3],
@@ -69,12 +70,31 @@ fn lent_calls_take_no_memory() {
     let asked = grown.and_then(|curve| {
         let value = lent::value(&x, &curve, &next_tags, &next_slots, 1.5)?;
         let total = lent::primitive(&x, &curve, &next_tags, &next_slots, 1.5)?;
+        let strip = lent::strip(&x, &curve, &next_tags, &next_slots, 0.5, 3.0)?;
+        let between = lent::strip_between(&x, &column, 0, 3)?;
+        lent::strips(
+            &x,
+            &curve,
+            &next_tags,
+            &next_slots,
+            &[0.5, 1.0],
+            &[1.5, 4.0],
+            &mut prices,
+        )?;
+        lent::strip_run(
+            &x,
+            &curve,
+            &next_tags,
+            &next_slots,
+            &[0.0, 1.5, 4.0],
+            &mut prices,
+        )?;
         let slots = lent::record(4, &next_slots, 1)?;
         let record = Record {
             tag: next_tags[1],
             slots,
         };
-        Ok(value + total + record.value(1.5)? + sqrt(2.0))
+        Ok(value + total + strip + between + record.value(1.5)? + sqrt(2.0))
     });
 
     assert_eq!(TAKEN.get(), before);

@@ -183,6 +183,47 @@ fn records_are_judged_at_their_knots_and_a_run_without_any_fails() {
 }
 
 #[test]
+fn strips_and_columns_are_judged_and_a_run_without_any_fails() {
+    if !oracle::AT_HAND {
+        return;
+    }
+    let many = &*MANY;
+    for (name, least) in [
+        ("columns written with a curve", 5000),
+        ("columns too short for their curve", 5),
+        ("in columns: entries infinite", 1000),
+        ("in columns: entries not a number", 1000),
+        ("in columns: last entry only the tail's", 300),
+        ("in strips: within one period", 3000),
+        ("in strips: across knots", 10_000),
+        ("in strips: an end outside the knots", 5000),
+        ("in strips: refused for equal ends", 5000),
+        ("in strips: refused for falling ends", 5000),
+        ("in strips: refused at the second end", 1000),
+        ("several strips at once", 5000),
+        ("several strips at once, refused", 5000),
+        ("runs of several strips", 5000),
+        ("runs of several strips, refused", 5000),
+        ("strips between two places", 5000),
+        ("strips to a place past the last", 500),
+        ("strips between places, column too short", 5000),
+        ("refusal 18", 20_000),
+    ] {
+        assert!(count(many, name) >= least, "{name}: {many}");
+    }
+
+    let output = run(&["--cases", "10"]);
+    let few = String::from_utf8(output.stdout).expect("text");
+    for missing in [
+        "none of this: columns too short for their curve",
+        "none of this: in columns: entries infinite",
+    ] {
+        let line = format!("too few cases: {missing}\n");
+        assert!(few.contains(&line), "{few}");
+    }
+}
+
+#[test]
 fn without_the_original_it_says_so() {
     if !oracle::AT_HAND {
         assert_eq!(

@@ -77,6 +77,9 @@ fn step_queries(rng: &mut Rng, x: &[f64]) -> Queries {
     keep(&mut all.inside, rng);
     keep(&mut all.anywhere, rng);
     all.breaks = rng.chance(4);
+    all.strips.inside.truncate(3);
+    all.strips.anywhere.truncate(3);
+    all.strips.between.truncate(1);
     all
 }
 

@@ -12,7 +12,7 @@ use havgrunel::{FIELDS, MOST_POINTS, SLOTS, Split};
 use oracle::answers::rng::Rng;
 use oracle::{Settings, legal_tags};
 
-use crate::case::{Case, Queries, Room};
+use crate::case::{Case, Queries, Room, Strips};
 
 const LEAST: f64 = f64::from_bits(1);
 
@@ -170,6 +170,7 @@ fn room(rng: &mut Rng) -> Room {
                 slots: more(),
                 sections: more(),
                 tail: more(),
+                column: more(),
             }
         }
     }
@@ -177,12 +178,13 @@ fn room(rng: &mut Rng) -> Room {
 
 fn shorten(rng: &mut Rng, room: &mut Room) {
     let less = rng.pick(&[-1, -1, -BEHIND, -RECORD, -100_000]);
-    match rng.below(5) {
+    match rng.below(6) {
         0 => room.nodes = less,
         1 => room.tags = less,
         2 => room.slots = less,
         3 => room.sections = less,
-        _ => room.tail = less,
+        4 => room.tail = less,
+        _ => room.column = less,
     }
 }
 
@@ -231,10 +233,43 @@ fn queries(rng: &mut Rng, x: &[f64]) -> Queries {
     if rng.chance(4) {
         inside.extend_from_slice(&anywhere);
     }
+    let strips = strips(rng, x, &inside, &anywhere);
     Queries {
         inside,
         anywhere,
         breaks: true,
+        strips,
+    }
+}
+
+/// Strips between places where a curve is asked. Most of them rise.
+fn strips(rng: &mut Rng, x: &[f64], inside: &[f64], anywhere: &[f64]) -> Strips {
+    let strip = |rng: &mut Rng, places: &[f64]| {
+        let (a, b) = (rng.pick(places), rng.pick(places));
+        match rng.below(8) {
+            0 => (a, a),
+            1 => (b.max(a), a.min(b)),
+            2 => (a, b),
+            _ => (a.min(b), b.max(a)),
+        }
+    };
+    let all = [inside, anywhere].concat();
+    let place = |rng: &mut Rng| match rng.below(16) {
+        0 => rng.pick(&[x.len(), x.len() + 1, usize::MAX]),
+        _ => index(rng, x.len()),
+    };
+    let between = |rng: &mut Rng| {
+        let (i, j) = (place(rng), place(rng));
+        if rng.chance(4) {
+            (i, j)
+        } else {
+            (i.min(j), i.max(j))
+        }
+    };
+    Strips {
+        inside: (0..6).map(|_| strip(rng, inside)).collect(),
+        anywhere: (0..6).map(|_| strip(rng, &all)).collect(),
+        between: (0..3).map(|_| between(rng)).collect(),
     }
 }
 

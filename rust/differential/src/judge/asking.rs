@@ -4,10 +4,12 @@ use havgrunel::ffi;
 use havgrunel::lent::Curve;
 use oracle::Record;
 
+use super::strips::Asking;
 use super::{Agreed, Judge, Mismatch, same_float, same_number, tail};
 use crate::case::Queries;
 use crate::expected;
-use crate::lent::{is_old, old};
+use crate::lent::{Lent, is_old, old};
+use crate::strip::Rule;
 
 impl Judge {
     /// Asks the curve that was just written, and hands back the one that it is held against.
@@ -26,11 +28,33 @@ impl Judge {
         for &x in queries.inside.iter().chain(&breaks) {
             self.asked(knots, held, &curve, false, x)?;
         }
+        self.asked_strips(knots, held, &curve, false, &queries.strips.inside)?;
         let curve = curve.with_extrapolation(true);
         for &x in &queries.anywhere {
             self.asked(knots, held, &curve, true, x)?;
         }
-        Ok(curve.with_extrapolation(false))
+        self.asked_strips(knots, held, &curve, true, &queries.strips.anywhere)?;
+        let curve = curve.with_extrapolation(false);
+        let column: Vec<f64> = curve.entries(knots).map(|entry| entry.total).collect();
+        let asking = asking(knots, &self.lent, held, false, self.strips);
+        for &places in &queries.strips.between {
+            asking.between(&column, places, &mut self.counts)?;
+            asking.between(&column[1..], places, &mut self.counts)?;
+        }
+        Ok(curve)
+    }
+
+    fn asked_strips(
+        &mut self,
+        knots: &[f64],
+        held: bool,
+        curve: &expected::Curve,
+        allow: bool,
+        strips: &[(f64, f64)],
+    ) -> Agreed {
+        let total = |x: f64| curve.answers(x).map(|[_, total]| total);
+        let asking = asking(knots, &self.lent, held, allow, self.strips);
+        asking.strips(strips, total, &mut self.counts)
     }
 
     fn asked(
@@ -41,13 +65,7 @@ impl Judge {
         allow: bool,
         x: f64,
     ) -> Agreed {
-        let lent = &self.lent;
-        let mine = Curve {
-            sections: lent.sections[0],
-            held,
-            extrapolates: allow,
-            tail: tail(&lent.tail),
-        };
+        let (lent, mine) = (&self.lent, mine(&self.lent, held, allow));
         let here = |mut mismatch: Mismatch| {
             mismatch.query = Some((allow, x));
             mismatch
@@ -65,6 +83,28 @@ impl Judge {
             same_number("the derivative", number, due).map_err(here)?;
         }
         Ok(())
+    }
+}
+
+/// What the curve that was just written is beside its knots and records.
+fn mine(lent: &Lent, held: bool, allow: bool) -> Curve {
+    Curve {
+        sections: lent.sections[0],
+        held,
+        extrapolates: allow,
+        tail: tail(&lent.tail),
+    }
+}
+
+/// The curve that was just written, asked for strips.
+fn asking<'a>(knots: &'a [f64], lent: &'a Lent, held: bool, allow: bool, rule: Rule) -> Asking<'a> {
+    Asking {
+        knots,
+        tags: &lent.tags,
+        slots: &lent.slots,
+        curve: mine(lent, held, allow),
+        entries: 1,
+        rule,
     }
 }
 

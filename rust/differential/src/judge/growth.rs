@@ -103,6 +103,20 @@ impl Judge {
             sections,
             tail,
         );
+        self.beside.lend(points, &step.room);
+        let (buffers, sections, tail) = self.beside.lent.parts();
+        let with_column = ffi::grow_with_column(
+            x,
+            y,
+            method(settings, step.split),
+            step.localisation,
+            step.final_size,
+            previous,
+            buffers,
+            sections,
+            tail,
+            &mut self.beside.column,
+        );
         let rule = self.rule(step.split, settings.positivity);
         let judged = Rule::due(rule, y, judged);
         let due = due(&judged, points, self.lent.short(points));
@@ -110,7 +124,10 @@ impl Judge {
         same_number("a step's refusal", number, due)?;
         let curve = match judged {
             Ok(curve) if due == 0 => curve,
-            _ => return self.lent.untouched(None),
+            _ => {
+                self.lent.untouched(None)?;
+                return self.same_with_column(x, with_column, due, None);
+            }
         };
         // The seam is known from the previous curve, so the nodes can be asked of a build.
         let seam = match (&step.previous, kept.as_ref()) {
@@ -124,6 +141,7 @@ impl Judge {
         let curve = Curve::new(curve, settings, x, y, rule);
         self.counts.made(Way::Grown, step.split, curve.seen());
         self.same_curve(x, &curve, &nodes)?;
+        self.same_with_column(x, with_column, due, Some(&curve))?;
         if curve.held() != held {
             let told = format!("the original says {}", curve.held());
             return Err(Mismatch::new("whether a curve is held", told));

@@ -5,11 +5,13 @@
 //! mode: there its sections are made anew that the mode's rule is about, by the rule as it is written.
 
 mod asking;
+mod columns;
 mod growth;
 mod knots;
 mod reading;
 mod section;
 mod sheets;
+mod strips;
 
 use havgrunel::lent::{Seam, Tail};
 use havgrunel::{ConvexMonotone, FIELDS, MOST_POINTS, SLOTS, Split, ffi};
@@ -19,8 +21,8 @@ use oracle::{Record, Settings};
 use crate::case::{Case, Queries, Room, Table};
 use crate::counts::{Counts, Way};
 use crate::expected::{Curve, Rule};
-use crate::lent::Lent;
-use crate::{at_knots, careful, safe};
+use crate::lent::{Columned, Lent};
+use crate::{at_knots, careful, safe, strip};
 use asking::{breaks, query};
 
 /// A number that is not the other side's.
@@ -31,6 +33,9 @@ pub struct Mismatch {
     pub told: String,
     /// The query that showed it, and whether extrapolation was on.
     pub query: Option<(bool, f64)>,
+    /// The strip that showed it, and whether extrapolation was on, or the two places.
+    pub strip: Option<(bool, (f64, f64))>,
+    pub between: Option<(usize, usize)>,
     /// The step of growth that showed it.
     pub step: usize,
 }
@@ -41,6 +46,8 @@ impl Mismatch {
             part,
             told,
             query: None,
+            strip: None,
+            between: None,
             step: 0,
         }
     }
@@ -112,9 +119,12 @@ fn due<T>(judged: &Result<T, u8>, points: usize, short: bool) -> u8 {
 pub struct Judge {
     pub counts: Counts,
     lent: Lent,
+    /// What the same call is lent once more, with a column.
+    beside: Columned,
     careful: careful::Rule,
     safe: safe::Rule,
     at_knots: at_knots::Rule,
+    strips: strip::Rule,
 }
 
 impl Default for Judge {
@@ -123,9 +133,11 @@ impl Default for Judge {
         Judge {
             counts: Counts::default(),
             lent: Lent::default(),
+            beside: Columned::default(),
             careful: careful::in_period,
             safe: safe::RULE,
             at_knots: at_knots::own,
+            strips: strip::RULE,
         }
     }
 }
@@ -151,6 +163,14 @@ impl Judge {
     pub fn at_knots_by(at_knots: at_knots::Rule) -> Judge {
         Judge {
             at_knots,
+            ..Judge::default()
+        }
+    }
+
+    /// One that judges strips and columns by this rule.
+    pub fn strips_by(strips: strip::Rule) -> Judge {
+        Judge {
+            strips,
             ..Judge::default()
         }
     }
@@ -185,14 +205,33 @@ impl Judge {
     /// The library's build into freshly lent buffers.
     fn lay(&mut self, table: &Table, room: &Room) -> u8 {
         self.lent.lend(table.x.len(), room);
-        let seam = table.seam.map(|seam| Seam {
-            count: seam.count,
-            node: seam.f_next,
-        });
-        let method = method(&table.settings, table.split);
         let (buffers, sections, tail) = self.lent.parts();
         ffi::build(
-            &table.x, &table.y, method, table.hold, seam, buffers, sections, tail,
+            &table.x,
+            &table.y,
+            method(&table.settings, table.split),
+            table.hold,
+            lent_seam(table),
+            buffers,
+            sections,
+            tail,
+        )
+    }
+
+    /// The same build with a column, into buffers beside those.
+    fn lay_with_column(&mut self, table: &Table, room: &Room) -> u8 {
+        self.beside.lend(table.x.len(), room);
+        let (buffers, sections, tail) = self.beside.lent.parts();
+        ffi::build_with_column(
+            &table.x,
+            &table.y,
+            method(&table.settings, table.split),
+            table.hold,
+            lent_seam(table),
+            buffers,
+            sections,
+            tail,
+            &mut self.beside.column,
         )
     }
 
@@ -215,11 +254,13 @@ impl Judge {
         let due = due(&judged, points, self.lent.short(points));
         self.counts.number(number);
         same_number("a build's refusal", number, due)?;
+        let with_column = self.lay_with_column(table, room);
         let curve = match judged {
             Ok(curve) if due == 0 => curve,
             _ => {
                 self.refused_knots(&table.x)?;
-                return self.lent.untouched(None);
+                self.lent.untouched(None)?;
+                return self.same_with_column(&table.x, with_column, due, None);
             }
         };
         let nodes = oracle::nodes(settings, &table.x, &table.y, seam);
@@ -227,6 +268,7 @@ impl Judge {
         let curve = Curve::new(curve, settings, &table.x, &table.y, rule);
         self.counts.made(Way::Built, table.split, curve.seen());
         self.same_curve(&table.x, &curve, &nodes)?;
+        self.same_with_column(&table.x, with_column, due, Some(&curve))?;
         self.ask(&table.x, *hold, curve, queries)?;
         Ok(())
     }
@@ -275,6 +317,14 @@ impl Judge {
         ];
         same_answers(&answers, &due, at)
     }
+}
+
+/// The seam of a table, as the library is lent it.
+fn lent_seam(table: &Table) -> Option<Seam> {
+    table.seam.map(|seam| Seam {
+        count: seam.count,
+        node: seam.f_next,
+    })
 }
 
 fn tail(told: &[f64]) -> Tail {

@@ -4,6 +4,7 @@ use havgrunel::lent::{Curve, Tail};
 use havgrunel::{MOST_POINTS, SLOTS, ffi};
 use oracle::Recipe;
 
+use super::strips::Asking;
 use super::{Agreed, Judge, Mismatch, breaks, built, due, query, record_at, same_number, tail};
 use crate::case::{Reading, Room};
 use crate::expected::{self, Rule};
@@ -72,6 +73,28 @@ impl Judge {
             })?;
             self.counts.queries += 2;
             self.counts.number(number);
+        }
+        let strips = &queries.strips;
+        let mut asking = Asking {
+            knots: &reading.knots,
+            tags: &tags,
+            slots: &slots,
+            curve,
+            entries: reading.answer,
+            rule: self.strips,
+        };
+        for (allow, strips) in [(false, &strips.inside), (true, &strips.anywhere)] {
+            asking.curve.extrapolates = allow;
+            let curve = asking.curve;
+            let total = |x: f64| {
+                let answer = answer(&reading.knots, &tags, &slots, &curve, x);
+                answer.map(|[_, total]| total)
+            };
+            asking.strips(strips, total, &mut self.counts)?;
+        }
+        let column: Vec<f64> = built.entries(&table.x).map(|entry| entry.total).collect();
+        for &places in &strips.between {
+            asking.between(&column, places, &mut self.counts)?;
         }
         for &(points, number, entries) in &reading.records {
             self.read(points, &slots, number, entries)?;

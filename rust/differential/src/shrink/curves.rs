@@ -4,7 +4,7 @@ use havgrunel::Split;
 use oracle::Settings;
 
 use super::numbers::{rounder, rounder_lists, stretches, without};
-use crate::case::{Case, Damage, Previous, Queries, Reading, Room, Step, Table};
+use crate::case::{Case, Damage, Previous, Queries, Reading, Room, Step, Strips, Table};
 use crate::judge::Mismatch;
 
 fn simpler_settings(settings: &Settings) -> Vec<Settings> {
@@ -44,14 +44,57 @@ fn is_only(queries: &Queries) -> bool {
     !queries.breaks && queries.inside.len() + queries.anywhere.len() <= 1
 }
 
+/// The one strip that showed it alone, or else fewer strips.
+fn simpler_strips(strips: &Strips, found: &Mismatch) -> Vec<Strips> {
+    let mut all = Vec::new();
+    let count = strips.inside.len() + strips.anywhere.len() + strips.between.len();
+    if count > 1 {
+        let mut only = Strips::default();
+        match found.strip {
+            Some((true, ends)) => only.anywhere.push(ends),
+            Some((false, ends)) => only.inside.push(ends),
+            None => {}
+        }
+        only.between.extend(found.between);
+        all.push(only);
+    }
+    let mut with = |change: &dyn Fn(&mut Strips)| {
+        let mut less = strips.clone();
+        change(&mut less);
+        all.push(less);
+    };
+    for stretch in stretches(strips.inside.len()) {
+        with(&|less| less.inside = without(&strips.inside, stretch));
+    }
+    for stretch in stretches(strips.anywhere.len()) {
+        with(&|less| less.anywhere = without(&strips.anywhere, stretch));
+    }
+    for stretch in stretches(strips.between.len()) {
+        with(&|less| less.between = without(&strips.between, stretch));
+    }
+    all
+}
+
 pub fn simpler_queries(queries: &Queries, found: &Mismatch) -> Vec<Queries> {
     let mut all = Vec::new();
+    for strips in simpler_strips(&queries.strips, found) {
+        all.push(Queries {
+            strips,
+            ..queries.clone()
+        });
+    }
     if !is_only(queries) {
-        all.push(only(found.query));
+        all.push(Queries {
+            strips: queries.strips.clone(),
+            ..only(found.query)
+        });
         return all;
     }
     if found.query.is_none() && queries.inside.len() + queries.anywhere.len() > 0 {
-        all.push(Queries::default());
+        all.push(Queries {
+            strips: queries.strips.clone(),
+            ..Queries::default()
+        });
     }
     for inside in rounder_lists(&queries.inside) {
         all.push(Queries {
@@ -69,6 +112,7 @@ pub fn simpler_queries(queries: &Queries, found: &Mismatch) -> Vec<Queries> {
     if !queries.anywhere.is_empty() {
         all.push(Queries {
             inside: queries.anywhere.clone(),
+            strips: queries.strips.clone(),
             ..Queries::default()
         });
     }
@@ -190,6 +234,8 @@ pub fn simpler_growths(x: &[f64], y: &[f64], steps: &[Step], found: &Mismatch) -
     for (place, step) in steps.iter().enumerate() {
         let found = Mismatch {
             query: found.query.filter(|_| place == found.step),
+            strip: found.strip.filter(|_| place == found.step),
+            between: found.between.filter(|_| place == found.step),
             ..found.clone()
         };
         for step in simpler_steps(step, &found) {
