@@ -2,7 +2,8 @@
 //!
 //! Each row first holds the answers of both against each other, bit for bit; a difference ends the program. Then both are measured
 //! in turn. The ratio is the median of the rounds' ratios, and the two numbers beside it are their 10th and 90th percentile; the
-//! times are medians. docs/PERFORMANCE.md says what is measured and how to read it.
+//! times are medians. A build with a column is held against the library's own build without one, in the place of the original.
+//! docs/PERFORMANCE.md says what is measured and how to read it.
 
 mod cases;
 mod clock;
@@ -84,8 +85,10 @@ fn main() -> ExitCode {
     println!();
     let mut report = Report::new(options);
     cases::build::rows(&mut report);
+    cases::column::rows(&mut report);
     cases::query::single(&mut report);
     cases::query::many(&mut report);
+    cases::strip::rows(&mut report);
     cases::growth::rows(&mut report);
     cases::root::rows(&mut report);
     if report.close() == 0 {

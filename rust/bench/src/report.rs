@@ -6,6 +6,7 @@ use crate::turns::{Row, measure};
 pub struct Report {
     options: Options,
     rows: usize,
+    remarks: Vec<&'static str>,
     notes: Vec<String>,
 }
 
@@ -16,6 +17,7 @@ impl Report {
         Report {
             options,
             rows: 0,
+            remarks: Vec::new(),
             notes: Vec::new(),
         }
     }
@@ -51,13 +53,21 @@ impl Report {
         }
     }
 
-    /// Something to be told under the table.
+    /// Something to be told of rows, under the table.
+    pub fn remark(&mut self, remark: &'static str) {
+        self.remarks.push(remark);
+    }
+
+    /// The kinds of section that rows had.
     pub fn note(&mut self, note: String) {
         self.notes.push(note);
     }
 
-    /// Prints the notes; answers how many rows there were.
+    /// Prints the remarks and the notes; answers how many rows there were.
     pub fn close(self) -> usize {
+        for remark in &self.remarks {
+            println!("\n{remark}");
+        }
         if !self.notes.is_empty() {
             println!("\nSections that have each part (a combination has two):");
             for note in &self.notes {

@@ -3,9 +3,11 @@
 use oracle::Settings;
 
 pub mod build;
+pub mod column;
 pub mod growth;
 pub mod query;
 pub mod root;
+pub mod strip;
 
 /// The sizes of table that are measured: a year of months, five years, a year of trading days and more, and the most that is taken.
 pub const SIZES: [usize; 4] = [13, 61, 400, 4096];

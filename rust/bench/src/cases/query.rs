@@ -13,10 +13,10 @@ use crate::same;
 use crate::tables::{Table, winter};
 
 /// How many queries a turn of single queries asks.
-const SINGLE: usize = 512;
+pub(super) const SINGLE: usize = 512;
 
 /// How many are asked of one curve at once.
-const MANY: usize = 100_000;
+pub(super) const MANY: usize = 100_000;
 
 #[derive(Clone, Copy)]
 enum Asked {
@@ -57,13 +57,13 @@ impl Asked {
     }
 }
 
-fn places(table: &Table, count: usize) -> Vec<f64> {
+pub(super) fn places(table: &Table, count: usize) -> Vec<f64> {
     let rng = &mut Rng::new(table.points() as u64);
     let (first, last) = (table.knots[0], table.knots[table.points() - 1]);
     (0..count).map(|_| rng.between(first, last)).collect()
 }
 
-fn original(table: &Table) -> Option<plain::Curve> {
+pub(super) fn original(table: &Table) -> Option<plain::Curve> {
     AT_HAND.then(|| {
         plain::build(&GAS, &table.knots, &table.averages)
             .unwrap_or_else(|_| panic!("the original builds a winter"))
