@@ -28,6 +28,10 @@ unsafe impl GlobalAlloc for Counting {
 #[global_allocator]
 static COUNTING: Counting = Counting;
 
+fn lend<'a>(nodes: &'a mut [f64], tags: &'a mut [u16], slots: &'a mut [f64]) -> Buffers<'a> {
+    Buffers { nodes, tags, slots }
+}
+
 #[test]
 fn lent_calls_take_no_memory() {
     let (x, y) = ([0.0, 1.0, 2.0, 4.0], [0.0, 5.0, 0.5, 3.0]);
@@ -37,11 +41,9 @@ fn lent_calls_take_no_memory() {
     let (mut column, mut prices) = ([0.0; 4], [0.0; 2]);
     let before = TAKEN.get();
 
-    let buffers = Buffers {
-        nodes: &mut nodes,
-        tags: &mut tags,
-        slots: &mut slots,
-    };
+    let buffers = lend(&mut nodes, &mut tags, &mut slots);
+    let plain = lent::build(&x[..3], &y[..3], method, true, None, buffers);
+    let buffers = lend(&mut nodes, &mut tags, &mut slots);
     let held = lent::build_with_column(&x[..3], &y[..3], method, true, None, buffers, &mut column);
     let previous = Previous {
         sections: 2,
@@ -49,24 +51,12 @@ fn lent_calls_take_no_memory() {
         tags: &tags,
         slots: &slots,
     };
-    let buffers = Buffers {
-        nodes: &mut next_nodes,
-        tags: &mut next_tags,
-        slots: &mut next_slots,
-    };
+    let buffers = lend(&mut next_nodes, &mut next_tags, &mut next_slots);
+    let plain_grown = lent::grow(&x, &y, method, 2, Some(previous), 4, buffers);
+    let buffers = lend(&mut next_nodes, &mut next_tags, &mut next_slots);
     let grown = lent::grow_with_column(&x, &y, method, 2, Some(previous), 4, buffers, &mut column);
-    let refused = lent::build(
-        &x,
-        &y[..3],
-        method,
-        false,
-        None,
-        Buffers {
-            nodes: &mut [],
-            tags: &mut [],
-            slots: &mut [],
-        },
-    );
+    let none = lend(&mut [], &mut [], &mut []);
+    let refused = lent::build(&x, &y[..3], method, false, None, none);
     let asked = grown.and_then(|curve| {
         let value = lent::value(&x, &curve, &next_tags, &next_slots, 1.5)?;
         let total = lent::primitive(&x, &curve, &next_tags, &next_slots, 1.5)?;
@@ -98,7 +88,8 @@ fn lent_calls_take_no_memory() {
     });
 
     assert_eq!(TAKEN.get(), before);
-    assert!(held.is_ok() && asked.is_ok() && refused.is_err());
+    assert!(plain.is_ok() && held.is_ok() && plain_grown.is_ok());
+    assert!(asked.is_ok() && refused.is_err());
     // The count does count.
     std::hint::black_box(Vec::<u8>::with_capacity(9));
     assert!(TAKEN.get() > before);
