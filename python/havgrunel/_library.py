@@ -30,6 +30,8 @@ _COUNTS = [POINTER(c_size_t), c_size_t]
 _METHOD = [c_double, c_double, c_bool, c_uint8]
 _TABLE = _NUMBERS + _NUMBERS + _METHOD
 _WRITTEN = _NUMBERS + _TAGS + _NUMBERS + _COUNTS + _NUMBERS
+_BUILT = _TABLE + [c_bool, c_bool, c_size_t, c_double] + _WRITTEN
+_GROWN = _TABLE + [c_size_t, c_size_t, c_bool, c_size_t, c_bool] + _TAGS + _NUMBERS + _WRITTEN
 _ASKED = _NUMBERS + _TAGS + _NUMBERS + [c_double, c_double, c_double, c_bool]
 
 # The functions of c/havgrunel.h that this package calls: what each answers, and what it takes. The last one is not called. A library from before there was
@@ -42,13 +44,19 @@ DECLARED: Dict[str, Tuple[Any, List[Any]]] = {
     "havgrunel_gas_quadraticity": (c_double, []),
     "havgrunel_gas_monotonicity": (c_double, []),
     "havgrunel_gas_positivity": (c_bool, []),
-    "havgrunel_build": (c_uint8, _TABLE + [c_bool, c_bool, c_size_t, c_double] + _WRITTEN),
-    "havgrunel_grow": (c_uint8, _TABLE + [c_size_t, c_size_t, c_bool, c_size_t, c_bool] + _TAGS + _NUMBERS + _WRITTEN),
+    "havgrunel_build": (c_uint8, _BUILT),
+    "havgrunel_build_with_column": (c_uint8, _BUILT + _NUMBERS),
+    "havgrunel_grow": (c_uint8, _GROWN),
+    "havgrunel_grow_with_column": (c_uint8, _GROWN + _NUMBERS),
     "havgrunel_build_in_sheets": (c_uint8, _TABLE + _COUNTS + _WRITTEN),
     "havgrunel_value": (c_uint8, _ASKED + [c_double] + _NUMBERS),
     "havgrunel_primitive": (c_uint8, _ASKED + [c_double] + _NUMBERS),
     "havgrunel_values": (c_uint8, _ASKED + _NUMBERS + _NUMBERS),
     "havgrunel_primitives": (c_uint8, _ASKED + _NUMBERS + _NUMBERS),
+    "havgrunel_strip": (c_uint8, _ASKED + [c_double, c_double] + _NUMBERS),
+    "havgrunel_strips": (c_uint8, _ASKED + _NUMBERS + _NUMBERS + _NUMBERS),
+    "havgrunel_strip_run": (c_uint8, _ASKED + _NUMBERS + _NUMBERS),
+    "havgrunel_strip_between": (c_uint8, _NUMBERS + _NUMBERS + [c_size_t, c_size_t] + _NUMBERS),
     "havgrunel_record": (c_uint8, [c_size_t] + _NUMBERS + [c_size_t] + _NUMBERS),
     "havgrunel_section": (c_uint8, [c_uint16] + _NUMBERS + [c_double] + _NUMBERS),
     "havgrunel_quadratic_min_safe": (c_uint8, [c_double] * 6 + _TAGS + _NUMBERS),

@@ -9,7 +9,7 @@ import math
 import operator
 import sys
 from array import array
-from typing import Any, Callable, Iterable, Optional, Sequence, SupportsFloat
+from typing import Any, Callable, Iterable, Optional, Sequence, SupportsFloat, Tuple
 
 Many = Iterable[SupportsFloat]
 
@@ -35,6 +35,10 @@ class Lent:
     def pointer(self, start: int = 0) -> Any:
         """A pointer to the entry `start`, or None where there is none."""
         return pointer(self.buffer, start, self.count)
+
+    def part(self, low: int, high: int) -> Tuple[Any, int]:
+        """The entries from `low` up to but not including `high`, as a call takes them: a pointer and a count."""
+        return self.pointer(low), high - low
 
     def copy(self) -> "array[float]":
         """The numbers in an array of their own."""

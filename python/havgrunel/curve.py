@@ -5,15 +5,13 @@ Every price and every total comes from a proved function of the library. Python 
 
 import ctypes
 import math
-import sys
 from array import array
 from dataclasses import dataclass, field
-from itertools import islice
 from typing import Any, Callable, Iterable, NamedTuple, Optional, Tuple, Type
 
 from . import _numbers
 from ._library import MOST_POINTS, SLOTS, load
-from ._numbers import Lent, Many
+from ._numbers import Kind, Lent, Many
 from .refusals import Refused
 from .section import Section
 
@@ -76,9 +74,9 @@ class Tail(NamedTuple):
 
 
 class _Room:
-    """Buffers for the curve of so many points; empty ones for a number that is refused whatever room there is."""
+    """Buffers for the curve of so many points, and for its column where one is asked for; empty ones for a number that is refused whatever room there is."""
 
-    def __init__(self, points: int) -> None:
+    def __init__(self, points: int, column: bool = False) -> None:
         points = points if 2 <= points <= MOST_POINTS else 0
         sections = max(points - 1, 0)
         self.nodes = _numbers.zeros(points)
@@ -86,9 +84,11 @@ class _Room:
         self.slots = _numbers.zeros(SLOTS * sections)
         self.sections = ctypes.c_size_t()
         self.tail = (ctypes.c_double * 3)()
+        self.column = _numbers.zeros(points) if column else None
 
     def lent(self) -> Tuple[Any, ...]:
-        return (*_lent(self.nodes), *_lent(self.tags), *_lent(self.slots), ctypes.byref(self.sections), 1, self.tail, 3)
+        curve = (*_lent(self.nodes), *_lent(self.tags), *_lent(self.slots), ctypes.byref(self.sections), 1, self.tail, 3)
+        return curve if self.column is None else (*curve, *_lent(self.column))
 
 
 def _lent(own: "array[Any]") -> Tuple[Any, int]:
@@ -108,11 +108,12 @@ class Curve:
     hold        -- the last period stays flat at its average
     seam        -- (count, node): the node at that knot is given, for a curve that goes on from another
     extrapolate -- whether points outside the knots are answered
+    column      -- whether the total up to each knot is kept beside the curve, for strip_between
 
     Raises Refused, with the number and the words of the reason.
     """
 
-    __slots__ = ("_knots", "_traded", "_nodes", "_tags", "_slots", "_tail", "_method", "_hold", "_extrapolate", "_asked", "_sections")
+    __slots__ = ("_knots", "_traded", "_nodes", "_tags", "_slots", "_tail", "_method", "_hold", "_extrapolate", "_column", "_asked", "_sections")
 
     def __init__(
         self,
@@ -123,18 +124,20 @@ class Curve:
         hold: bool = False,
         seam: Optional[Tuple[int, float]] = None,
         extrapolate: bool = False,
+        column: bool = False,
     ) -> None:
         library = load()
         method = _method(method)
         xs, ys = _own(knots, "knots"), _own(averages, "averages")
         where, node = (0, 0.0) if seam is None else (_numbers.count(seam[0], "the seam's count"), _numbers.one(seam[1], "the seam's node"))
-        room = _Room(len(xs))
-        number = library.havgrunel_build(*_table(xs, ys, method), bool(hold), seam is not None, where, node, *room.lent())
+        room = _Room(len(xs), bool(column))
+        build = library.havgrunel_build_with_column if column else library.havgrunel_build
+        number = build(*_table(xs, ys, method), bool(hold), seam is not None, where, node, *room.lent())
         _build_refusal(number, xs, ys)
         self._hold_all(xs, ys, room, method, bool(hold), bool(extrapolate))
 
     def _hold_all(self, xs: "array[float]", ys: "array[float]", room: _Room, method: Method, hold: bool, extrapolate: bool) -> None:
-        self._set(xs, ys, room.nodes, room.tags, room.slots, Tail(*room.tail), method, hold, extrapolate)
+        self._set(xs, ys, room.nodes, room.tags, room.slots, Tail(*room.tail), method, hold, extrapolate, room.column)
 
     def _set(
         self,
@@ -147,9 +150,10 @@ class Curve:
         method: Method,
         hold: bool,
         extrapolate: bool,
+        column: "Optional[array[float]]" = None,
     ) -> None:
         self._knots, self._traded, self._nodes, self._tags, self._slots = knots, traded, nodes, tags, slots
-        self._tail, self._method, self._hold, self._extrapolate = tail, method, hold, extrapolate
+        self._tail, self._method, self._hold, self._extrapolate, self._column = tail, method, hold, extrapolate, column
         self._asked = (*_lent(knots), *_lent(tags), *_lent(slots), *tail, extrapolate)
         self._sections: Optional[Tuple[Section, ...]] = None
 
@@ -161,7 +165,7 @@ class Curve:
     ) -> "Curve":
         """The curve of a table, built in sheets that end at the cuts: numbers of inner knots, counted from 0, each above the one before.
 
-        It is the curve that Curve(knots, averages, method) is, bit for bit.
+        It is the curve that Curve(knots, averages, method) is, bit for bit. It has no column.
         """
         library = load()
         method = _method(method)
@@ -186,23 +190,34 @@ class Curve:
         method: Optional[Method] = None,
         *,
         extrapolate: bool = False,
+        column: bool = False,
     ) -> "Curve":
         """The first curve of a table that grows by a point at a time: its first localisation + 1 points, which stand alone.
 
         The last period is held until there are final_size points. `grow` makes the next curve of this one.
         """
-        return cls._grown(None, knots, averages, localisation, final_size, _method(method), bool(extrapolate))
+        return cls._grown(None, knots, averages, localisation, final_size, _method(method), bool(extrapolate), bool(column))
 
-    def grow(self, knots: Many, averages: Many, localisation: int, final_size: int) -> "Curve":
+    def grow(self, knots: Many, averages: Many, localisation: int, final_size: int, *, column: Optional[bool] = None) -> "Curve":
         """The next curve of a growing table: `knots` and `averages` are the whole table, a point longer than this curve's.
 
-        It has this curve's method, and goes on where this curve's last section that was not held ended.
+        It has this curve's method, and goes on where this curve's last section that was not held ended. It has a column where this curve has one, unless
+        `column` says otherwise.
         """
-        return self._grown(self, knots, averages, localisation, final_size, self._method, self._extrapolate)
+        with_column = self._column is not None if column is None else bool(column)
+        return self._grown(self, knots, averages, localisation, final_size, self._method, self._extrapolate, with_column)
 
     @classmethod
     def _grown(
-        cls, previous: Optional["Curve"], knots: Many, averages: Many, localisation: int, final_size: int, method: Method, extrapolate: bool
+        cls,
+        previous: Optional["Curve"],
+        knots: Many,
+        averages: Many,
+        localisation: int,
+        final_size: int,
+        method: Method,
+        extrapolate: bool,
+        column: bool,
     ) -> "Curve":
         library = load()
         xs, ys = _own(knots, "knots"), _own(averages, "averages")
@@ -210,8 +225,9 @@ class Curve:
         kept: Tuple[Any, ...] = (False, 0, False, None, 0, None, 0)
         if previous is not None:
             kept = (True, len(previous._tags), previous._hold, *_lent(previous._tags), *_lent(previous._slots))
-        room = _Room(len(xs))
-        number = library.havgrunel_grow(*_table(xs, ys, method), window, final, *kept, *room.lent())
+        room = _Room(len(xs), column)
+        grow = library.havgrunel_grow_with_column if column else library.havgrunel_grow
+        number = grow(*_table(xs, ys, method), window, final, *kept, *room.lent())
         _build_refusal(number, xs, ys)
         curve = cls.__new__(cls)
         curve._hold_all(xs, ys, room, method, len(xs) != final, extrapolate)
@@ -221,7 +237,7 @@ class Curve:
         """The same curve, with points outside the knots answered or not."""
         other = type(self).__new__(type(self))
         other._set(
-            self._knots, self._traded, self._nodes, self._tags, self._slots, self._tail, self._method, self._hold, bool(on)
+            self._knots, self._traded, self._nodes, self._tags, self._slots, self._tail, self._method, self._hold, bool(on), self._column
         )
         return other
 
@@ -263,6 +279,11 @@ class Curve:
         return self._tail
 
     @property
+    def column(self) -> "Optional[array[float]]":
+        """A copy of the column, which has the total up to each knot: what `primitive` answers there. None for a curve without one."""
+        return None if self._column is None else self._column[:]
+
+    @property
     def sections(self) -> Tuple[Section, ...]:
         """The sections, one to a period."""
         if self._sections is None:
@@ -276,11 +297,27 @@ class Curve:
 
     def value(self, x: float) -> float:
         """The price at x."""
-        return self._told(load().havgrunel_value, x)
+        return self._told(load().havgrunel_value, _numbers.one(x, "x"))
 
     def primitive(self, x: float) -> float:
         """The total of all prices from the first knot up to x."""
-        return self._told(load().havgrunel_primitive, x)
+        return self._told(load().havgrunel_primitive, _numbers.one(x, "x"))
+
+    def strip(self, a: float, b: float) -> float:
+        """The average price from a to b: (total at b - total at a) / (b - a), where each of the three steps is rounded once.
+
+        Refused for a's own reasons first, then for b's, then by 18 unless a is below b.
+        """
+        return self._told(load().havgrunel_strip, _numbers.one(a, "a"), _numbers.one(b, "b"))
+
+    def strip_between(self, i: int, j: int) -> float:
+        """The average price from knot i to knot j, both counted from 0: strip(knots[i], knots[j]), bit for bit, by two entries of the column.
+
+        Refused by 11 on a curve without a column, and by 18 unless i is below j and j is the number of a knot.
+        """
+        column = (None, 0) if self._column is None else _lent(self._column)
+        places = _numbers.count(i, "the first place"), _numbers.count(j, "the second place")
+        return _single(load().havgrunel_strip_between, *_lent(self._knots), *column, *places)
 
     def values(self, xs: Many) -> Any:
         """The price at each of xs, as the kind of sequence that xs is: a list, an array, a numpy array or a pandas Series with the index of xs.
@@ -288,53 +325,68 @@ class Curve:
         All or nothing: where one is refused, Refused says which was the first.
         """
         lent = _numbers.many(xs, "xs")
-        return lent.like.given(self._told_all(load().havgrunel_values, lent))
+        return self._told_all(load().havgrunel_values, lent.like, lent.count, lent.part)
 
     def primitives(self, xs: Many) -> Any:
         """The total of all prices from the first knot up to each of xs, as `values` has it."""
         lent = _numbers.many(xs, "xs")
-        return lent.like.given(self._told_all(load().havgrunel_primitives, lent))
+        return self._told_all(load().havgrunel_primitives, lent.like, lent.count, lent.part)
+
+    def strips(self, starts: Many, ends: Many) -> Any:
+        """The average price from each of starts to the entry beside it in ends, each what `strip` answers, as the kind of sequence that starts is.
+
+        All or nothing: where one is refused, Refused says which strip was the first. Refused by 1 where there are more of one than of the other.
+        """
+        first, second = _numbers.many(starts, "starts"), _numbers.many(ends, "ends")
+        if first.count != second.count:
+            raise Refused(1)
+        return self._told_all(load().havgrunel_strips, first.like, first.count, lambda low, high: (*first.part(low, high), *second.part(low, high)))
 
     def averages(self, edges: Many) -> Any:
-        """What the curve averages from each edge to the next: one answer less than there are edges, which must rise.
+        """The average price from each edge to the next, each what `strip` answers: one answer less than there are edges, which must rise.
 
-        An answer is (total at the right edge - total at the left edge) / (right - left), and each of the three steps is rounded once. It comes as the
-        kind of sequence that the edges are; a pandas Series has the index of the left edges.
+        It comes as the kind of sequence that the edges are; a pandas Series has the index of the left edges. All or nothing: where one is refused,
+        Refused says which edge is to blame.
         """
         lent = _numbers.many(edges, "edges")
         if lent.count == 0:
             raise ValueError("there are no edges, and averages lie between them")
-        totals = self._told_all(load().havgrunel_primitives, lent)
-        if hasattr(totals, "dtype"):
-            return lent.like.given(_numpy_quotients(lent.buffer, totals))
-        return lent.like.given(_quotients(memoryview(lent.buffer), totals))
+        try:
+            return self._told_all(load().havgrunel_strip_run, lent.like, lent.count - 1, lambda low, high: lent.part(low, high + 1))
+        except Refused as refused:
+            raise Refused(refused.number, self._edge_to_blame(lent, refused.index)) from None
 
-    def _told(self, function: Callable[..., int], x: float) -> float:
-        answer = ctypes.c_double()
-        number = function(*self._asked, _numbers.one(x, "x"), ctypes.byref(answer), 1)
+    def _told(self, function: Callable[..., int], *points: float) -> float:
+        return _single(function, *self._asked, *points)
+
+    def _told_all(self, function: Callable[..., int], like: Kind, count: int, lend: Callable[[int, int], Tuple[Any, ...]]) -> Any:
+        """So many answers of one call. `lend` gives what it takes for the answers from one number up to another."""
+        answers = like.room(count)
+        number = function(*self._asked, *lend(0, count), _numbers.pointer(answers, 0, count), count)
         if number:
-            raise Refused(number)
-        return answer.value
+            raise Refused(number, self._first_refused(function, count, lend))
+        return like.given(answers)
 
-    def _told_all(self, function: Callable[..., int], xs: Lent) -> Any:
-        answers = xs.like.room(xs.count)
-        number = function(*self._asked, xs.pointer(), xs.count, _numbers.pointer(answers, 0, xs.count), xs.count)
-        if number:
-            raise Refused(number, self._first_refused(function, xs))
-        return answers
-
-    def _first_refused(self, function: Callable[..., int], xs: Lent) -> Optional[int]:
-        """Which of xs is the first that is refused. Half of those that are left are asked at a time."""
-        low, high = 0, xs.count
-        spare = _numbers.zeros(xs.count)
-        into = _numbers.pointer(spare, 0, xs.count)
+    def _first_refused(self, function: Callable[..., int], count: int, lend: Callable[[int, int], Tuple[Any, ...]]) -> Optional[int]:
+        """Which answer is the first that is refused. Half of those that are left are asked at a time."""
+        low, high = 0, count
+        spare = _numbers.zeros(count)
+        into = _numbers.pointer(spare, 0, count)
         while high - low > 1:
             middle = (low + high) // 2
-            if function(*self._asked, xs.pointer(low), middle - low, into, xs.count):
+            if function(*self._asked, *lend(low, middle), into, count):
                 high = middle
             else:
                 low = middle
         return low if high else None
+
+    def _edge_to_blame(self, edges: Lent, strip: Optional[int]) -> Optional[int]:
+        """The edge for which a strip of a run is refused: the right one, unless the left one is the first edge of all and cannot be asked itself."""
+        if strip is None:
+            return None
+        answer = ctypes.c_double()
+        first = strip == 0 and load().havgrunel_primitives(*self._asked, *edges.part(0, 1), ctypes.byref(answer), 1)
+        return 0 if first else strip + 1
 
     # ---- As an object ----
 
@@ -349,7 +401,7 @@ class Curve:
 
     def __reduce__(self) -> Tuple[Any, ...]:
         buffers = (self._knots, self._traded, self._nodes, self._tags, self._slots)
-        return _again, (type(self), *buffers, self._tail, self._method, self._hold, self._extrapolate)
+        return _again, (type(self), *buffers, self._tail, self._method, self._hold, self._extrapolate, self._column)
 
 
 def _again(cls: Type[Curve], *parts: Any) -> Curve:
@@ -359,6 +411,15 @@ def _again(cls: Type[Curve], *parts: Any) -> Curve:
     if len(curve._slots) != SLOTS * len(curve._tags):
         raise ValueError(f"the curve was pickled with {len(curve._slots) // len(curve._tags)} slots to a record, and there are {SLOTS} now: build it again")
     return curve
+
+
+def _single(function: Callable[..., int], *lent: Any) -> float:
+    """The one number that a call answers."""
+    answer = ctypes.c_double()
+    number = function(*lent, ctypes.byref(answer), 1)
+    if number:
+        raise Refused(number)
+    return answer.value
 
 
 def _method(method: Optional[Method]) -> Method:
@@ -390,29 +451,3 @@ def _build_refusal(number: int, xs: "array[float]", ys: "array[float]", cuts: It
         28: (not before < cut < len(xs) - 1 for before, cut in zip([0, *cuts], cuts)),
     }
     raise Refused(number, next((k for k, fault in enumerate(to_blame.get(number, ())) if fault), None))
-
-
-def _falls(k: int, left: float, right: float) -> ValueError:
-    return ValueError(f"edges must rise, and entry {k + 1}, which is {right!r}, is not above the one before it, {left!r}")
-
-
-def _quotients(edges: memoryview, totals: "array[float]") -> "array[float]":
-    held = array("d")
-    ahead = zip(edges, islice(edges, 1, None), totals, islice(totals, 1, None))
-    for k, (left, right, start, end) in enumerate(ahead):
-        if not left < right:
-            raise _falls(k, left, right)
-        held.append((end - start) / (right - left))
-    return held
-
-
-def _numpy_quotients(edges: Any, totals: Any) -> Any:
-    """The same, for numpy arrays: the very same three steps, many at a time."""
-    numpy = sys.modules["numpy"]
-    edges = numpy.asarray(edges)
-    falling = numpy.flatnonzero(~(edges[:-1] < edges[1:]))
-    if len(falling):
-        k = int(falling[0])
-        raise _falls(k, float(edges[k]), float(edges[k + 1]))
-    with numpy.errstate(all="ignore"):
-        return (totals[1:] - totals[:-1]) / (edges[1:] - edges[:-1])

@@ -21,6 +21,7 @@ REFUSALS: Dict[int, str] = {
     15: "a record's tag is not legal, or the record is not there",
     16: "a sheet needs a given node at one end at least, and this one has none",
     17: "the bytes are not a well-formed order",
+    18: "the strip's first end is not below its second, or a place is past the last knot",
     28: "a cut is not an inner knot of the table, or not above the cut before it",
     29: "an average is below 0, and no curve at or above 0 can keep it, as the safe split promises",
     30: "the split's number is none of 0, 1 and 2",
@@ -44,6 +45,7 @@ NAMES: Dict[int, str] = {
     15: "RECORD_NOT_LEGAL",
     16: "NO_GIVEN_NODE",
     17: "ORDER_MALFORMED",
+    18: "STRIP_ENDS_NOT_RISING",
     28: "CUTS_NOT_INNER",
     29: "AVERAGE_BELOW_ZERO",
     30: "SPLIT_UNKNOWN",
@@ -54,7 +56,7 @@ class Refused(ValueError):
     """A call that the library refused, for the first reason in the call's own order. Nothing was written.
 
     number -- the refusal's number, the same in every language
-    index  -- which knot, average, cut or query is to blame, counted from 0; None where no single one is
+    index  -- which knot, average, cut, query, strip or edge is to blame, counted from 0; None where no single one is
     """
 
     def __init__(self, number: int, index: Optional[int] = None) -> None:

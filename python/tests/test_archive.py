@@ -70,7 +70,7 @@ class FirstRun(unittest.TestCase):
         self.assertRegex(lines[1], r"^archive: 1 of \d+ crates: numbers is proved, \d+ s so far$")
         self.assertRegex(lines[2], r"^archive: 2 of \d+ crates: refusal is proved, \d+ s so far$")
         self.assertRegex(lines[-1], r"^archive: the library is proved and compiled, \d+ s in all$")
-        self.assertEqual(len([line for line in lines if " export_" in line]), 4)
+        self.assertEqual(len([line for line in lines if " export_" in line]), 5)
         # What is there is found without a word, and nothing of the work is left.
         self.assertEqual(self.run_archive("--progress"), (0, self.native("libhavgrunel.a") + "\n", ""))
         self.assertEqual(set(os.listdir(self.native(""))) - {"lock"}, {"libhavgrunel.a", "libhavgrunel.so", "log", "sum"})

@@ -168,8 +168,7 @@ class Asking(Refusing):
 
     def test_edges_that_do_not_rise(self):
         curve = Curve(*THREE)
-        with self.assertRaisesRegex(ValueError, "entry 2, which is 1.0, is not above the one before it, 1.0"):
-            curve.averages([0, 1, 1, 2])
+        self.refused(18, 2, curve.averages, [0, 1, 1, 2])
         with self.assertRaisesRegex(ValueError, "no edges"):
             curve.averages([])
         self.refused(12, 1, curve.averages, [0, math.nan, 1])

@@ -56,7 +56,7 @@ def header():
 class Declarations(unittest.TestCase):
     def test_they_are_the_header_s(self):
         functions = header()
-        self.assertEqual(len(functions), 30)
+        self.assertEqual(len(functions), 36)
         for name, declared in _library.DECLARED.items():
             self.assertEqual(declared, functions[name], name)
 

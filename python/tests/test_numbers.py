@@ -134,8 +134,16 @@ class Numpy(unittest.TestCase):
         told = CURVE.averages(edges)
         self.assertIsInstance(told, numpy.ndarray)
         self.assertEqual(told.tolist(), CURVE.averages(edges.tolist()))
-        with self.assertRaisesRegex(ValueError, "entry 2, which is 1.0, is not above the one before it, 1.0"):
+        with self.assertRaises(Refused) as caught:
             CURVE.averages(numpy.array([0.0, 1.0, 1.0]))
+        self.assertEqual((caught.exception.number, caught.exception.index), (18, 2))
+
+    def test_strips(self):
+        starts, ends = numpy.linspace(0.0, 1.0, 101), numpy.linspace(0.5, 2.0, 101)
+        told = CURVE.strips(starts, ends)
+        self.assertIsInstance(told, numpy.ndarray)
+        self.assertEqual(told.tolist(), CURVE.strips(starts.tolist(), ends.tolist()))
+        self.assertEqual(CURVE.strips(starts.tolist(), ends), told.tolist())
 
     def test_tables_and_single_numbers(self):
         curve = Curve(numpy.array(KNOTS), numpy.array(AVERAGES), CURVE.method)
@@ -168,6 +176,10 @@ class Pandas(unittest.TestCase):
 
     def test_averages_have_the_left_edges(self):
         told = CURVE.averages(pandas.Series([0, 1, 2], index=list("abc")))
+        self.assertEqual((told.index.tolist(), told.tolist()), (["a", "b"], [1.0, 3.0]))
+
+    def test_strips_have_the_index_of_their_starts(self):
+        told = CURVE.strips(pandas.Series([0, 1], index=list("ab")), pandas.Series([1, 2], index=list("xy")))
         self.assertEqual((told.index.tolist(), told.tolist()), (["a", "b"], [1.0, 3.0]))
 
     def test_a_frame_and_its_columns(self):
