@@ -1,7 +1,6 @@
 """An order's answer: its curve, the rows that are asked for, what each period holds, and what a reader should be told.
 
-Every price and every total comes from a proved function. The average over a row is (total at its end - total at its start) / length, Python's own
-subtraction and division.
+Every price, every total and the average over every row and strip comes from a proved function.
 """
 
 import bisect
@@ -13,7 +12,7 @@ from .curve import Curve, Method
 from .faults import Stop, clipped
 from .refusals import Refused
 from .section import Section
-from .text import Asked, Knots, Order, Points, Rows, moment, needs_clock, show
+from .text import Asked, Knots, Order, Points, Rows, Strips, moment, needs_clock, show
 
 # How far what a period holds may lie from what it traded at before it counts as lost, as a part of the largest of its average and its two nodes. In 10,000
 # drawn strips with positivity off rounding alone came to 4.9e-12 up to monotonicity 0.99, and in 3,000 each to 3.1e-10 at 0.999, 1.3e-8 at 0.9999 and
@@ -55,6 +54,17 @@ class OverRow(NamedTuple):
     total: float
 
 
+class OverStrip(NamedTuple):
+    """An answer to 'strip': its start and end, its average, and the lowest and the highest that a period which it touches traded at. It touches none where it
+    lies outside the table."""
+
+    start: float
+    end: float
+    average: float
+    lowest: Optional[float]
+    highest: Optional[float]
+
+
 class AtKnot(NamedTuple):
     """A knot: the price of the section that ends there, the price of the one that starts there, the total up to it, and whether the curve jumps. The first
     knot has no price from the left, and the last none from the right."""
@@ -66,16 +76,19 @@ class AtKnot(NamedTuple):
     jump: bool
 
 
+Row = Union[AtPoint, OverRow, OverStrip, AtKnot]
+
+
 @dataclass
 class Answered:
     """One thing that was asked, and its answers."""
 
     asked: Asked
-    rows: Sequence[Union[AtPoint, OverRow, AtKnot]]
+    rows: Sequence[Row]
 
     def numbers(self) -> List[Tuple[float, ...]]:
-        """The answers of each row, without its point."""
-        return [tuple(x for x in (row[2:] if isinstance(row, OverRow) else row[1:]) if x is not None) for row in self.rows]
+        """The answers of each row, without its points."""
+        return [tuple(x for x in (row[2:] if isinstance(row, (OverRow, OverStrip)) else row[1:]) if x is not None) for row in self.rows]
 
 
 @dataclass
@@ -172,8 +185,22 @@ def refused_points(order: Order, curve: Curve, asked: Points) -> List[str]:
 
 
 def over_rows(curve: Curve, asked: Rows) -> List[OverRow]:
-    starts, ends = asked.edges[:-1], asked.edges[1:]
-    return [OverRow(*row) for row in zip(starts, ends, curve.averages(asked.edges), curve.values(starts), curve.primitives(ends))]
+    starts, ends = asked.at[:-1], asked.at[1:]
+    return [OverRow(*row) for row in zip(starts, ends, curve.averages(asked.at), curve.values(starts), curve.primitives(ends))]
+
+
+def over_strips(order: Order, curve: Curve, asked: Strips) -> List[OverStrip]:
+    try:
+        prices = curve.strips(asked.starts, asked.ends)
+    except Refused:
+        raise Stop(1, *refused_points(order, curve, asked), placed=True) from None
+    return [OverStrip(a, b, price, *traded_range(order, a, b)) for a, b, price in zip(asked.starts, asked.ends, prices)]
+
+
+def traded_range(order: Order, start: float, end: float) -> Tuple[Optional[float], Optional[float]]:
+    """The lowest and the highest that a period between two points traded at."""
+    touched = [average for a, b, average in zip(order.knots, order.knots[1:], order.averages[1:]) if a < end and start < b]
+    return (min(touched), max(touched)) if touched else (None, None)
 
 
 def at_knots(curve: Curve) -> List[AtKnot]:
@@ -192,10 +219,12 @@ def jumps(left: float, right: float, scale: float) -> bool:
     return not abs(left - right) <= JUMP * scale < math.inf
 
 
-def rows_of(order: Order, curve: Curve, asked: Asked) -> Sequence[Union[AtPoint, OverRow, AtKnot]]:
+def rows_of(order: Order, curve: Curve, asked: Asked) -> Sequence[Row]:
     """The answers to one thing that is asked."""
     if isinstance(asked, Knots):
         return at_knots(curve)
+    if isinstance(asked, Strips):
+        return over_strips(order, curve, asked)
     return at_points(order, curve, asked) if isinstance(asked, Points) else over_rows(curve, asked)
 
 
@@ -356,7 +385,7 @@ def not_finite(found: Answer) -> Tuple[int, List[str]]:
 
 
 def asked_points(found: Answer) -> List[float]:
-    return [x for table in found.tables for x in (table.asked.edges if isinstance(table.asked, Rows) else table.asked.at)]
+    return [x for table in found.tables for x in table.asked.at]
 
 
 def cause(order: Order, k: int) -> str:
@@ -393,9 +422,10 @@ def below_prices(found: Answer) -> List[str]:
         look(section.x_prev, section.right_price, lambda: f"the price just before {show(order, section.x_next)}")
     for table in found.tables:
         for row in table.rows:
+            if isinstance(row, (OverRow, OverStrip)):
+                look(row.start, row.average, lambda: f"the average from {show(order, row.start)} to {show(order, row.end)}")
             if isinstance(row, OverRow):
                 look(row.start, row.price, lambda: f"the price at {show(order, row.start)}")
-                look(row.start, row.average, lambda: f"the average from {show(order, row.start)} to {show(order, row.end)}")
             elif isinstance(row, AtPoint):
                 look(row.at, row.price, lambda: f"the price at {show(order, row.at)}")
     lines = [

@@ -22,6 +22,7 @@ asked:
 
     daily                        # also: hourly, every 0.25
     at 2026-10-15 2026-11-15     # points, as many lines as you like
+    strip: 2026-11-01 to 2026-11-16   # one price from START to END, likewise
 
 The library has two defaults. 'settings: gas' names the values above. Where no
 default is named, positivity is off, and all else is the same: that is for
@@ -30,7 +31,7 @@ power, which trades below 0. The heading of a table tells which default it has.
 Periods are named 2026-10, Oct-26, Oct 2026, 2026-Q4, Q4-26, winter 2026, Win-26
 (October to March), summer 2027, Sum-27 (April to September), 2027 or Cal-27.
 They must adjoin, and END is where the next one starts: the day after the last
-day.
+day. So it is with a strip.
 
 A table may also have a knot to a line, with the average of the period that
 ends there. The first knot stands alone:
@@ -54,7 +55,9 @@ averages below 0.
 
 'daily' tells of each day the average over it, the price at its start and the
 running total at its end; 'at' the price at a point and the running total up to
-it. Under a table stands whether each period kept its average.
+it; 'strip' the average from START to END beside what was traded there: of
+several periods the lowest and the highest. Under a table stands whether each
+period kept its average.
 
 --knots tells of each knot the price that the curve comes to from the left, the
 price that it goes on with to the right, and the running total up to it. It
@@ -82,7 +85,7 @@ from .files import guard, read, tell, write
 from .orderbytes import whole
 from .periods import number
 from .tables import check, file_text, printed
-from .text import Order, Rows, read_order
+from .text import Order, read_order
 
 STATUSES = """\
 exit status:
@@ -177,7 +180,7 @@ def drawn(answers: Sequence[Answer], scale: Optional[tuple]) -> bytes:
 def only_table(order: Order, option: str) -> None:
     """A file has one table."""
     if len(order.asked) > 1:
-        kinds = [quoted(one.word if isinstance(one, Rows) else "at") for one in order.asked]
+        kinds = [quoted(one.word) for one in order.asked]
         raise Stop(2, f"{order.name} asks for {' and '.join(kinds)}, and {option} writes one table: ask for one of them", placed=True)
 
 

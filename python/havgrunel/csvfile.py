@@ -1,4 +1,4 @@
-"""A strip as a spreadsheet has it: a CSV file as an order, and answers as CSV or TSV.
+"""A table of quotes as a spreadsheet has it: a CSV file as an order, and answers as CSV or TSV.
 
 What a file does not say of itself is found out: which sign parts its cells, whether decimals have a comma, whether rows stand above the table that belong
 to no period. Where that leaves a choice between two numbers, the row is told and nothing is read.
@@ -11,7 +11,7 @@ from typing import Iterable, List, Optional, Sequence, Tuple
 
 from .faults import Bad, clipped, quoted
 from .periods import Item, item, items
-from .strips import Strip
+from .quotes import Quotes
 from .text import Order, begin, finish, options_asked
 
 # A sign that parts cells, in the order in which they are tried: a comma last, since it may be a decimal sign.
@@ -20,6 +20,7 @@ SEPARATORS = ["\t", ";", "|", ","]
 ROW_NAMES = ["start", "end", "average", "price_at_start", "total_at_end"]
 POINT_NAMES = ["point", "price", "total"]
 KNOT_NAMES = ["knot", "price_from_left", "price_from_right", "total", "jump"]
+STRIP_NAMES = ["start", "end", "average", "lowest_traded", "highest_traded"]
 
 ROW_FORMS = "a row is a period and its price, START, END and a price, or a knot and its average"
 
@@ -115,7 +116,7 @@ def parted(text: str) -> Tuple[str, List[str], List[Row]]:
 
 def chosen(heading: List[str], rows: List[Row]) -> List[Row]:
     """The columns that say something. Of a file that this command wrote they are the start, the end and the average."""
-    if [name.lower() for name in heading] == ROW_NAMES:
+    if [name.lower() for name in heading] in (ROW_NAMES, STRIP_NAMES):
         return [(line, cells[:3]) for line, cells in rows]
     width = max(len(cells) for _, cells in rows)
     filled = [k for k in range(width) if any(k < len(cells) and cells[k] for _, cells in rows)]
@@ -156,7 +157,7 @@ def cell_item(cell: str, sign: str) -> Item:
     return found[0] if len(found) == 1 else Item("other", cell)
 
 
-def read_rows(strip: Strip, text: str) -> None:
+def read_rows(quotes: Quotes, text: str) -> None:
     separator, heading, rows = parted(text)
     rows = chosen(heading, rows)
     sign = decimal_sign(rows, separator)
@@ -164,7 +165,7 @@ def read_rows(strip: Strip, text: str) -> None:
         try:
             if "" in cells:
                 raise Bad("a cell of this row is empty")
-            strip.add([cell_item(cell, sign) for cell in cells], line)
+            quotes.add([cell_item(cell, sign) for cell in cells], line)
         except Located:
             raise
         except Bad as fault:
@@ -177,12 +178,12 @@ def read_csv(name: str, data: bytes, sets: Sequence[str] = (), asks: Sequence[st
     asked = options_asked(order, asks)
     if not asked and not knots:
         asked = [("daily, as nothing else is asked", "daily")]
-    strip = Strip(order.settings["first average"] == "not read")
+    quotes = Quotes(order.settings["first average"] == "not read")
     try:
-        read_rows(strip, decoded(data))
+        read_rows(quotes, decoded(data))
     except Located as fault:
         raise order.bad(fault.line, fault) from None
-    return finish(order, strip, asked, knots)
+    return finish(order, quotes, asked, knots)
 
 
 # ---- Out ----
@@ -196,7 +197,7 @@ def written(names: Sequence[str], rows: Iterable[Sequence[str]], separator: str)
 def is_own(start: bytes) -> bool:
     """Whether a file begins as one that this command writes."""
     first = start.partition(b"\n")[0].rstrip(b"\r")
-    return first in {separator.join(names).encode() for names in (ROW_NAMES, POINT_NAMES, KNOT_NAMES) for separator in ",\t"}
+    return first in {separator.join(names).encode() for names in (ROW_NAMES, POINT_NAMES, KNOT_NAMES, STRIP_NAMES) for separator in ",\t"}
 
 
 def full(x: Optional[float]) -> str:

@@ -3,7 +3,7 @@
 import struct
 from typing import List, Sequence
 
-from .text import Order, Points
+from .text import Order
 
 # What one order holds, by its format.
 MOST_KNOTS = 200
@@ -11,8 +11,8 @@ MOST_POINTS = 64
 
 
 def points(order: Order) -> List[float]:
-    """The points that an order's bytes ask for: those of 'at', and the edges of rows."""
-    return [x for asked in order.asked for x in (asked.at if isinstance(asked, Points) else asked.edges)]
+    """The points that an order's bytes ask for: those of 'at', the edges of rows, and the two ends of each strip."""
+    return [x for asked in order.asked for x in asked.at]
 
 
 def only_original(order: Order) -> None:
@@ -37,9 +37,8 @@ def whole(order: Order) -> bytes:
         raise order.bad(order.knot_lines[MOST_KNOTS], f"an order's bytes have at most {MOST_KNOTS} knots")
     count = 0
     for asked in order.asked:
-        here = asked.at if isinstance(asked, Points) else asked.edges
-        if count + len(here) > MOST_POINTS:
-            line = asked.lines[MOST_POINTS - count] if isinstance(asked, Points) else asked.line
+        if count + len(asked.at) > MOST_POINTS:
+            line = asked.lines[MOST_POINTS - count]
             raise order.bad(line, f"an order's bytes ask for at most {MOST_POINTS} points, and this asks for {len(points(order))}")
-        count += len(here)
+        count += len(asked.at)
     return order_bytes(order, points(order))

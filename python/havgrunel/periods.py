@@ -187,7 +187,7 @@ def unknown(found: Item) -> Bad:
     if low in MONTH_NAMES or low in SEASONS or low == "cal" or re.fullmatch("q[1-4]", low):
         return Bad(f"{quoted(found.text)} has no year; taken are {FORMS}")
     if found.text.isalpha():
-        return Bad(f"{quoted(found.text)} is neither a word that asks (daily, hourly, every STEP, at POINT ..) nor a knot or period; those are {FORMS}")
+        return Bad(f"{quoted(found.text)} is neither a word that asks (daily, hourly, every STEP, at POINT .., strip: START to END) nor a knot or period; those are {FORMS}")
     hint = separator_hint(found.text)
     if hint:
         return Bad(f"{quoted(found.text)} is no knot and no period{hint}")

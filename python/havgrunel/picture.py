@@ -1,7 +1,7 @@
 """Orders and their curves as a picture: draw(orders, curves) is the text of an SVG.
 
-The traded averages are steps, a curve is a line, and where one order asks for rows (daily, hourly, every) each row's average is a bar, as it is printed. A
-picture shows one table, under one set of settings or several. It is light or dark as its reader's screen is, and carries its title and a sentence of
+The traded averages are steps, a curve is a line, and where one order asks for rows (daily, hourly, every) each row's average is a bar, as it is printed;
+where it asks for strips, each is a level line over its days. A picture shows one table, under one set of settings or several. It is light or dark as its reader's screen is, and carries its title and a sentence of
 description for readers who don't see it.
 """
 
@@ -10,12 +10,12 @@ import os
 import zlib
 from array import array
 from dataclasses import dataclass
-from typing import Dict, List, Optional, Sequence, Tuple
+from typing import Dict, List, NamedTuple, Optional, Sequence, Tuple
 from xml.sax.saxutils import escape
 
 from .curve import Curve
 from .lettering import width, wrap
-from .text import METHOD, Order, Points, Rows, in_words, plain, show
+from .text import METHOD, Order, Points, Rows, Strips, in_words, plain, show
 from .ticks import Mark, fitting_numbers, moments, numbers
 
 Scale = Tuple[float, float]
@@ -112,6 +112,14 @@ def sampled(order: Order, curve: Curve) -> Drawn:
     return Drawn([[next(pairs) for _ in range(count)] for count in counts], cut)
 
 
+class Level(NamedTuple):
+    """A strip that is asked for, with its price."""
+
+    start: float
+    end: float
+    price: float
+
+
 @dataclass
 class Bars:
     """Rows that are asked for, with their averages."""
@@ -127,11 +135,17 @@ def bars(orders: Sequence[Order], curves: Sequence[Curve], reach: float) -> Opti
         return None
     order = orders[0]
     for rows in order.asked:
-        if isinstance(rows, Rows) and len(rows.edges) > 1 and rows.step / reach * (WIDE - LEFT - RIGHT) >= LEAST_ROW:
+        if isinstance(rows, Rows) and len(rows.at) > 1 and rows.step / reach * (WIDE - LEFT - RIGHT) >= LEAST_ROW:
             unit = order.unit or str(order.settings["time"])
             name = {"daily": "day average", "hourly": "hour average"}.get(rows.word, f"average, {rows.word} {unit}".strip())
-            return Bars(name, rows.edges, list(curves[0].averages(array("d", rows.edges))))
+            return Bars(name, rows.at, list(curves[0].averages(array("d", rows.at))))
     return None
+
+
+def levels(orders: Sequence[Order], curves: Sequence[Curve]) -> List[Level]:
+    """The strips of a picture of one curve."""
+    asked = next((one for one in orders[0].asked if isinstance(one, Strips)), None) if len(orders) == 1 else None
+    return [] if asked is None else [Level(*strip) for strip in zip(asked.starts, asked.ends, curves[0].strips(asked.starts, asked.ends))]
 
 
 # ---- The scales ----
@@ -144,6 +158,7 @@ class Content:
     orders: Sequence[Order]
     drawn: List[Drawn]
     rows: Optional[Bars]
+    strips: List[Level]
     left: float
     right: float
 
@@ -164,7 +179,7 @@ def content(orders: Sequence[Order], curves: Sequence[Curve]) -> Content:
     drawn = [sampled(order, curve) for order, curve in zip(orders, curves)]
     left = min(curve.stretches[0][0][0] for curve in drawn)
     right = max(curve.stretches[-1][-1][0] for curve in drawn)
-    return Content(orders, drawn, bars(orders, curves, right - left), left, right)
+    return Content(orders, drawn, bars(orders, curves, right - left), levels(orders, curves), left, right)
 
 
 def heights(shown: Content) -> Scale:
@@ -178,7 +193,10 @@ def heights(shown: Content) -> Scale:
             if math.isfinite(price):
                 (within if first <= x <= last else beyond).append(price)
     if shown.rows:
-        within += [average for average in shown.rows.averages if math.isfinite(average)]
+        within += filter(math.isfinite, shown.rows.averages)
+    for a, b, price in shown.strips:
+        if math.isfinite(price):
+            (within if first <= a and b <= last else beyond).append(price)
     low, high = min(within), max(within)
     reach = high - low or abs(high) or 1.0
     low, high = max(min([low, *beyond]), low - reach), min(max([high, *beyond]), high + reach)
@@ -276,6 +294,7 @@ def draw(orders: Sequence[Order], curves: Sequence[Curve], scale: Optional[Scale
         *ground(shown, frame, marks),
         f'<path d="M{at(begin)} {at(frame.top)}V{at(frame.foot)}H{at(frame.end)}" {painted("axis")}/>',
         steps(shown.first, frame),
+        *strip_lines(shown.strips, frame),
         *(curve_path(curve, frame, k) for k, curve in enumerate(shown.drawn)),
         "</g>",
         *(text_at(begin - 8, frame.down(y) + 5, label, ' text-anchor="end"') for y, label in marks),
@@ -298,6 +317,9 @@ def description(shown: Content) -> str:
             told.append(f"Line, {name}: from {short(min(prices))} to {short(max(prices))}.")
     if shown.rows:
         told.append(f"Bars: {shown.rows.name}.")
+    prices = [strip.price for strip in shown.strips if math.isfinite(strip.price)]
+    if prices:
+        told.append(f"Level lines, strip price: from {short(min(prices))} to {short(max(prices))}.")
     return " ".join(told)
 
 
@@ -327,6 +349,16 @@ def steps(order: Order, frame: Frame) -> str:
     periods = zip(order.knots, order.knots[1:], order.averages[1:])
     path = "".join(f"M{at(frame.across(a))} {at(frame.down(average))}H{at(frame.across(b))}" for a, b, average in periods)
     return f'<path d="{path}" {painted("step")} stroke-width="2.5"/>'
+
+
+# A strip stands out from the bars under it; its colour is that of a third curve, which is never drawn with it.
+LEVEL = f'{painted("curve3")} stroke-width="5"'
+
+
+def strip_lines(strips: Sequence[Level], frame: Frame) -> List[str]:
+    """A level line over the days of each strip whose price is a number."""
+    path = "".join(f"M{at(frame.across(a))} {at(frame.down(price))}H{at(frame.across(b))}" for a, b, price in strips if math.isfinite(price))
+    return [f'<path d="{path}" {LEVEL}/>'] if path else []
 
 
 def block(frame: Frame, a: float, b: float, height: float, floor: float, gap: float = 0.0) -> str:
@@ -373,10 +405,11 @@ def thinned(places: List[Optional[Tuple[float, float]]]) -> List[Optional[Tuple[
 
 
 def faults(shown: Content) -> List[float]:
-    """The points with no finite price, or the starts of rows with no finite average."""
+    """The points with no finite price, or the starts of rows and strips with no finite average."""
     found = {x for curve in shown.drawn for stretch in curve.stretches for x, price in stretch if not math.isfinite(price)}
     if shown.rows:
         found |= {a for a, average in zip(shown.rows.edges, shown.rows.averages) if not math.isfinite(average)}
+    found |= {strip.start for strip in shown.strips if not math.isfinite(strip.price)}
     return sorted(found)
 
 
@@ -432,13 +465,16 @@ def entries(shown: Content, low: float, high: float) -> List[Tuple[str, str]]:
     if shown.rows:
         found.append((f'<path d="M2 0v-9h8v9zM11 0v-11h8v11zM20 0v-10h8v10z" {painted("row")}/><path d="M2 -9h8m1 -2h8m1 1h8" {painted("top")}/>', shown.rows.name))
     found.append((f'<path d="M0 -5h30" {painted("step")} stroke-width="2.5"/>', "traded average"))
+    if shown.strips:
+        found.append((f'<path d="M0 -5h30" {LEVEL}/>', "strip price"))
     if faults(shown):
         found.append((ring(15, -5), "no finite price"))
     if any(curve.cut for curve in shown.drawn):
         found.append(("", f"drawn from {show(shown.first, shown.left)} to {show(shown.first, shown.right)}"))
     prices = [price for curve in shown.drawn for stretch in curve.stretches for _, price in stretch]
     rows = shown.rows.averages if shown.rows else []
-    if any(math.isfinite(price) and not low <= price <= high for price in [*shown.first.averages[1:], *prices, *rows]):
+    strips = [strip.price for strip in shown.strips]
+    if any(math.isfinite(price) and not low <= price <= high for price in [*shown.first.averages[1:], *prices, *rows, *strips]):
         found.append(("", "cut off at the edge"))
     return found
 

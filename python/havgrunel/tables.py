@@ -3,9 +3,9 @@
 import math
 from typing import List, Optional, Sequence, Tuple
 
-from .answers import Answer, Answered, AtKnot, AtPoint, OverRow, period, short
-from .csvfile import KNOT_NAMES, POINT_NAMES, ROW_NAMES, full, written
-from .text import METHOD, SETTINGS, Knots, Order, Points, Rows, default_name, in_words, needs_clock, plain, show
+from .answers import Answer, Answered, AtKnot, AtPoint, OverRow, OverStrip, period, short
+from .csvfile import KNOT_NAMES, POINT_NAMES, ROW_NAMES, STRIP_NAMES, full, written
+from .text import METHOD, SETTINGS, Knots, Order, Points, Rows, Strips, default_name, in_words, needs_clock, plain, show
 
 # What the first column of rows is called.
 ROW_HEADS = {"daily": "day", "hourly": "hour"}
@@ -77,7 +77,7 @@ def row_table(order: Order, table: Answered, exact: bool) -> List[str]:
     heads = [(ROW_HEADS.get(table.asked.word, "from"), "average", "price at its start", "running total at its end")]
     if price or point or total:
         heads.append((point, price, price, total))
-    clock = needs_clock(order, table.asked.edges)
+    clock = needs_clock(order, table.asked.at)
     rows = []
     for row in table.rows:
         assert isinstance(row, OverRow)
@@ -85,6 +85,22 @@ def row_table(order: Order, table: Answered, exact: bool) -> List[str]:
     lines = laid_out(heads, rows)
     note = short_last(order, table.asked)
     return [*lines, note] if note else lines
+
+
+def strip_table(order: Order, table: Answered, exact: bool) -> List[str]:
+    """Each strip's price beside what was traded: of several periods the lowest and the highest."""
+    assert isinstance(table.asked, Strips)
+    point, price, _ = units(order)
+    heads = [("strip from", "to", "average", "traded")]
+    if price or point:
+        heads.append((point, point, price, price))
+    ends = table.asked.shown
+    rows = []
+    for row, start, end in zip(table.rows, ends[::2], ends[1::2]):
+        assert isinstance(row, OverStrip)
+        traded = " to ".join(shown(x, exact) for x in sorted({row.lowest, row.highest} - {None})) or shown(None, exact)
+        rows.append((start, end, shown(row.average, exact), traded))
+    return laid_out(heads, rows)
 
 
 def knot_table(order: Order, table: Answered, exact: bool) -> List[str]:
@@ -103,12 +119,12 @@ def knot_table(order: Order, table: Answered, exact: bool) -> List[str]:
 
 def short_last(order: Order, asked: Rows) -> str:
     """A note on a last row that is shorter than the others."""
-    if len(asked.edges) < 2 or len(asked.edges) == 2 and asked.edges[1] - asked.edges[0] >= asked.step:
+    if len(asked.at) < 2 or len(asked.at) == 2 and asked.at[1] - asked.at[0] >= asked.step:
         return ""
-    length = asked.edges[-1] - asked.edges[-2]
+    length = asked.at[-1] - asked.at[-2]
     if length >= asked.step * (1 - 1e-9):
         return ""
-    return f"The last row is shorter than the others: it ends at {show(order, asked.edges[-1])}."
+    return f"The last row is shorter than the others: it ends at {show(order, asked.at[-1])}."
 
 
 def check(answer: Answer) -> List[str]:
@@ -133,7 +149,7 @@ def printed(answer: Answer, exact: bool = False) -> str:
     """The whole text: heading, tables and check."""
     lines = heading(answer.order)
     for table in answer.tables:
-        lay_out = {Points: point_table, Rows: row_table, Knots: knot_table}[type(table.asked)]
+        lay_out = {Points: point_table, Strips: strip_table, Rows: row_table, Knots: knot_table}[type(table.asked)]
         lines += ["", *lay_out(answer.order, table, exact)]
     return "\n".join([*lines, "", *check(answer)]) + "\n"
 
@@ -141,11 +157,9 @@ def printed(answer: Answer, exact: bool = False) -> str:
 def file_text(answer: Answer, separator: str) -> str:
     """One table as CSV or TSV, every digit of it."""
     order, table = answer.order, answer.tables[0]
-    if isinstance(table.asked, Points):
-        clock = needs_clock(order, table.asked.at)
-        return written(POINT_NAMES, ([show(order, row[0], clock), *map(full, row[1:])] for row in table.rows), separator)
+    clock = needs_clock(order, table.asked.at)
     if isinstance(table.asked, Knots):
-        clock = needs_clock(order, table.asked.at)
         return written(KNOT_NAMES, ([show(order, row[0], clock), *map(full, row[1:4]), str(int(row[4]))] for row in table.rows), separator)
-    clock = needs_clock(order, table.asked.edges)
-    return written(ROW_NAMES, ([show(order, row[0], clock), show(order, row[1], clock), *map(full, row[2:])] for row in table.rows), separator)
+    names = {Points: POINT_NAMES, Strips: STRIP_NAMES, Rows: ROW_NAMES}[type(table.asked)]
+    points = 1 if names is POINT_NAMES else 2
+    return written(names, ([*(show(order, x, clock) for x in row[:points]), *map(full, row[points:])] for row in table.rows), separator)

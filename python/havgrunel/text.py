@@ -10,7 +10,7 @@ from typing import Callable, Collection, Dict, List, Optional, Sequence, Tuple, 
 from .curve import SPLITS
 from .faults import Bad, Stop, clipped, quoted
 from .periods import Item, items, number, unknown
-from .strips import Strip, distance, kind_of
+from .quotes import Quotes, distance, doubted, kind_of
 
 # A century of days and more, or four years of hours. It keeps a slip in a date from asking for rows without end.
 MOST_ROWS = 40000
@@ -26,6 +26,26 @@ class Points:
     at: List[float]
     shown: List[str]
     lines: List[Line]
+    word = "at"
+
+    def add(self, more: "Points") -> None:
+        self.at += more.at
+        self.shown += more.shown
+        self.lines += more.lines
+
+
+class Strips(Points):
+    """Strips, of all lines that ask for one: the start and the end of each, one after the other, as points are."""
+
+    word = "strip"
+
+    @property
+    def starts(self) -> List[float]:
+        return self.at[::2]
+
+    @property
+    def ends(self) -> List[float]:
+        return self.at[1::2]
 
 
 @dataclass
@@ -35,7 +55,11 @@ class Rows:
     line: Line
     word: str
     step: float
-    edges: List[float]
+    at: List[float]
+
+    @property
+    def lines(self) -> List[Line]:
+        return [self.line] * len(self.at)
 
 
 @dataclass
@@ -45,7 +69,8 @@ class Knots:
     at: List[float]
 
 
-Asked = Union[Points, Rows, Knots]
+# What is asked has its points in `at`, whatever is told of them.
+Asked = Union[Points, Strips, Rows, Knots]
 
 
 @dataclass
@@ -63,7 +88,7 @@ class Order:
     knot_lines: List[int] = field(default_factory=list)
     average_lines: List[int] = field(default_factory=list)
     setting_lines: Dict[str, Line] = field(default_factory=dict)
-    doubts: List[Tuple[int, str]] = field(default_factory=list)
+    doubts: List[Tuple[Line, str]] = field(default_factory=list)
 
     def place(self, line: Optional[Line]) -> str:
         """Where a message points to."""
@@ -223,7 +248,14 @@ def read_setting(order: Order, key: str, value: str, line: Line) -> None:
 
 # ---- What is asked ----
 
-ASKING = ("at", "daily", "hourly", "every")
+ASKING = ("at", "daily", "hourly", "every", "strip")
+WHAT_ASKS = "'daily', 'hourly', 'every STEP', 'at POINT ..' or 'strip: START to END'"
+STRIP_FORM = "a strip goes from one point to another, as strip: 2026-11-01 to 2026-11-16"
+
+
+def without_colon(text: str) -> str:
+    """A line that asks for a strip without its colon, as the other words that ask have none. A colon is what settings have."""
+    return re.sub(r"^(\s*strip)\s*:", r"\1 ", text, flags=re.IGNORECASE)
 
 
 def edges(first: float, last: float, step: Fraction) -> List[float]:
@@ -276,13 +308,36 @@ def short(count: Fraction) -> str:
 def read_points(order: Order, found: List[Item], line: Line) -> Points:
     if not found:
         raise Bad("'at' has no points")
-    return Points([point(order, one) for one in found], [one.text for one in found], [line] * len(found))
+    return Points(*asked_points(order, found, line, "'at' takes points, as 2026-10-15"))
 
 
-def point(order: Order, found: Item) -> float:
-    """A point that is asked for, in the table's own unit."""
+def read_strip(order: Order, text: str, line: Line) -> Strips:
+    """The strip of one line. Its end is where what comes after it starts, as the end of a period is."""
+    parts = [items(part) for part in re.split(r"\bto\b", text, flags=re.IGNORECASE)]
+    if [len(part) for part in parts] != [1, 1]:
+        raise Bad(STRIP_FORM)
+    start, end = (part[0] for part in parts)
+    for one in start, end:
+        if one.kind == "other" and order.dates:
+            raise Bad(f"{quoted(one.text)} is no day, and {STRIP_FORM}")
+    strip = Strips(*asked_points(order, [start, end], line, STRIP_FORM))
+    if strip.at[0] >= strip.at[1]:
+        raise Bad(f"the strip ends at {clipped(end.text)}, which is not after its start, {clipped(start.text)}")
+    if start.moment is not None and end.moment is not None:
+        doubt = doubted(start.moment, end.moment, "strip")
+        order.doubts += [(line, doubt)] if doubt else []
+    return strip
+
+
+def asked_points(order: Order, found: List[Item], line: Line, form: str) -> Tuple[List[float], List[str], List[Line]]:
+    """Points as numbers and as they were written, and the line of each."""
+    return [point(order, one, form) for one in found], [one.text for one in found], [line] * len(found)
+
+
+def point(order: Order, found: Item, form: str) -> float:
+    """A point that is asked for, in the table's own unit. `form` says how points are written there."""
     if found.kind == "period":
-        raise Bad(f"{quoted(found.text)} is a period, and 'at' takes points, as 2026-10-15")
+        raise Bad(f"{quoted(found.text)} is a period, and {form}")
     if found.kind == "other":
         raise unknown(found) if order.dates else Bad(str(number_fault(found.text)))
     if order.knots and (found.kind == "moment") != order.dates:
@@ -303,12 +358,14 @@ def number_fault(word: str) -> Bad:
     return Bad(f"{quoted(word)} is not a number")
 
 
-def read_asked(order: Order, text: str, line: Line) -> Union[Points, Rows]:
+def read_asked(order: Order, text: str, line: Line) -> Union[Points, Strips, Rows]:
     """One line that asks."""
     parts = text.split()
     word = parts[0].lower()
     if word == "at":
         return read_points(order, items(" ".join(parts[1:])), line)
+    if word == "strip":
+        return read_strip(order, " ".join(parts[1:]), line)
     return read_rows(order, word, parts, line)
 
 
@@ -330,13 +387,13 @@ def begin(name: str, sets: Sequence[str]) -> Order:
     return order
 
 
-def unit_of(order: Order, strip: Strip, asked: Sequence[Tuple[Line, str]]) -> str:
+def unit_of(order: Order, quotes: Quotes, asked: Sequence[Tuple[Line, str]]) -> str:
     """What a knot counts: 'days', 'hours', or '' where nobody says."""
     said = str(order.settings["time"]).lower()
     if order.dates:
-        unit = "hours" if strip.clocked else "days"
+        unit = "hours" if quotes.clocked else "days"
         if said and said != unit:
-            kind = "timestamps" if strip.clocked else "dates"
+            kind = "timestamps" if quotes.clocked else "dates"
             what = f"the knots are {kind} and count {unit}, and the time is said to be in {quoted(str(order.settings['time']))}"
             raise order.bad(order.setting_lines["time"], what)
         return unit
@@ -352,17 +409,17 @@ def unit_of(order: Order, strip: Strip, asked: Sequence[Tuple[Line, str]]) -> st
     return unit
 
 
-def finish(order: Order, strip: Strip, asked: Sequence[Tuple[Line, str]], knots: bool) -> Order:
+def finish(order: Order, quotes: Quotes, asked: Sequence[Tuple[Line, str]], knots: bool) -> Order:
     """The order, once its table is whole. Where the knots are asked for, they are in place of all else that is asked."""
-    order.dates = bool(strip.points) and not strip.counts()
-    order.knots, order.averages = strip.knots(), strip.averages
-    order.knot_lines = order.average_lines = strip.lines
-    order.doubts = strip.doubts
-    order.unit = unit_of(order, strip, asked)
+    order.dates = bool(quotes.points) and not quotes.counts()
+    order.knots, order.averages = quotes.knots(), quotes.averages
+    order.knot_lines = order.average_lines = quotes.lines
+    order.doubts = quotes.doubts
+    order.unit = unit_of(order, quotes, asked)
     if order.dates:
-        start = strip.points[0]
+        start = quotes.points[0]
         assert isinstance(start, datetime.datetime)
-        order.start = start if strip.clocked else start.date()
+        order.start = start if quotes.clocked else start.date()
     for line, text in asked:
         try:
             ask(order, read_asked(order, text, line))
@@ -373,13 +430,11 @@ def finish(order: Order, strip: Strip, asked: Sequence[Tuple[Line, str]], knots:
     return order
 
 
-def ask(order: Order, more: Union[Points, Rows]) -> None:
-    """Asks one thing more. Points make one table, however many lines ask for them."""
-    before = next((one for one in order.asked if isinstance(one, Points)), None)
-    if isinstance(more, Points) and before is not None:
-        before.at += more.at
-        before.shown += more.shown
-        before.lines += more.lines
+def ask(order: Order, more: Union[Points, Strips, Rows]) -> None:
+    """Asks one thing more. Points make one table, however many lines ask for them, and so do strips."""
+    before = next((one for one in order.asked if type(one) is type(more)), None)
+    if isinstance(more, Points) and isinstance(before, Points):
+        before.add(more)
     else:
         order.asked.append(more)
 
@@ -388,9 +443,9 @@ def options_asked(order: Order, asks: Sequence[str]) -> List[Tuple[Line, str]]:
     """What the command line asks."""
     found: List[Tuple[Line, str]] = []
     for text in asks:
-        line = f"--ask {quoted(text)}"
+        line, text = f"--ask {quoted(text)}", without_colon(text)
         if not text.split() or text.split()[0].lower() not in ASKING:
-            raise order.bad(line, "what is asked is 'daily', 'hourly', 'every STEP' or 'at POINT ..'")
+            raise order.bad(line, f"what is asked is {WHAT_ASKS}")
         found.append((line, text))
     return found
 
@@ -403,40 +458,41 @@ def read_order(name: str, data: bytes, sets: Sequence[str] = (), asks: Sequence[
         text = data.decode("utf-8-sig")
     except UnicodeDecodeError as fault:
         raise order.bad(data.count(b"\n", 0, fault.start) + 1, "this is not UTF-8 text") from None
-    strip: Optional[Strip] = None
+    quotes: Optional[Quotes] = None
     asked: List[Tuple[Line, str]] = []
     line = 1
     for line, whole in enumerate(text.rstrip("\n").split("\n"), 1):
         try:
-            strip = read_line(order, strip, asked, whole, line)
+            quotes = read_line(order, quotes, asked, whole, line)
         except Bad as fault:
             raise order.bad(line, fault) from None
     if not asked and not more and not knots:
-        raise order.bad(line, "nothing is asked: a line 'daily', 'hourly', 'every STEP', or 'at' with points, is missing")
-    return finish(order, strip or Strip(), asked + more, knots)
+        raise order.bad(line, f"nothing is asked: a line {WHAT_ASKS} is missing")
+    return finish(order, quotes or Quotes(), asked + more, knots)
 
 
-def read_line(order: Order, strip: Optional[Strip], asked: List[Tuple[Line, str]], whole: str, line: int) -> Optional[Strip]:
+def read_line(order: Order, quotes: Optional[Quotes], asked: List[Tuple[Line, str]], whole: str, line: int) -> Optional[Quotes]:
     """Takes one line of a text; answers the table so far."""
+    whole = without_colon(whole)
     setting = split_setting(whole)
     if setting is not None:
-        if strip is not None or asked:
+        if quotes is not None or asked:
             raise Bad("settings come before the first knot")
         read_setting(order, *setting, line)
-        return strip
+        return quotes
     kept = re.sub(r"(^|\s)#.*", "", whole).strip()
     if not kept:
-        return strip
+        return quotes
     if kept.split()[0].lower() in ASKING:
         if len(kept.split()) == 1 and kept.lower() == "at":
             raise Bad("'at' has no points")
         asked.append((line, kept))
-        return strip
+        return quotes
     if asked:
         raise Bad("knots come before what is asked")
     key = next((key for key in SETTINGS if " ".join(kept.lower().split()).startswith(key + " ")), None)
     if key is not None:
         raise Bad(f"'{key}' is a setting, and a colon stands behind it: {key}: {clipped(kept.split()[-1])}")
-    strip = strip or Strip(order.settings["first average"] == "not read")
-    strip.add(items(kept), line)
-    return strip
+    quotes = quotes or Quotes(order.settings["first average"] == "not read")
+    quotes.add(items(kept), line)
+    return quotes

@@ -161,7 +161,7 @@ class Contents(unittest.TestCase):
         text = MONTHS
         order = read_order("order.txt", text.encode())
         rows = order.asked[0]
-        averages = curve_of(order).averages(rows.edges)
+        averages = curve_of(order).averages(rows.at)
         svg = drawn(text)
         self.assertIn("day average", texts_of(svg))
         tops = re.findall(r"M(\S+) (\S+)H(\S+?)(?=M|$)", lengths(svg, "top")[0])

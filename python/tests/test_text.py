@@ -11,7 +11,8 @@ BLANKS = "words are parted by blanks here; commas and semicolons are for a file 
 POINT_SIGN = "the decimal sign is a point, and digits are not grouped"
 FIRST = "the first knot has an average, and no period ends there"
 NAMES = "a line is a period and its price, or START END PRICE; periods are 2026-10, Oct-26, 2026-Q4, Q4-26, winter 2026, Win-26, summer 2027, Sum-27, 2027, Cal-27"
-NOTHING = "nothing is asked: a line 'daily', 'hourly', 'every STEP', or 'at' with points, is missing"
+ASKS = "'daily', 'hourly', 'every STEP', 'at POINT ..' or 'strip: START to END'"
+NOTHING = f"nothing is asked: a line {ASKS} is missing"
 SETTINGS = "title, price, time, settings, quadraticity, monotonicity, positivity, split, hold last period, extrapolation, first average"
 
 # What is wrong with a text, where that is said, and how.
@@ -54,7 +55,7 @@ BAD = [
     ("10/2026 30\n", 1, f"'10/2026' is not a number, a day or a period; taken are {FORMS}"),
     ("Oct 29.40\n", 1, f"'Oct' has no year; taken are {FORMS}"),
     ("winter 29.40\n", 1, f"'winter' has no year; taken are {FORMS}"),
-    ("weekly\n", 1, f"'weekly' is neither a word that asks (daily, hourly, every STEP, at POINT ..) nor a knot or period; those are {FORMS}"),
+    ("weekly\n", 1, f"'weekly' is neither a word that asks (daily, hourly, every STEP, at POINT .., strip: START to END) nor a knot or period; those are {FORMS}"),
     ("2026-13 3\n", 1, "there is no month '2026-13'"),
     ("9999-12 3\n", 1, "'9999-12' is beyond the calendar"),
     ("2026-10\n", 1, "the period '2026-10' has no price"),
@@ -134,7 +135,7 @@ class Wrong(unittest.TestCase):
             ({"sets": ["split: never"]}, "x: --set 'split: never': 'never' is neither 'original' nor 'careful' nor 'safe'"),
             ({"sets": ["split: careful", "split: original"]}, "x: --set 'split: original': 'split' is set twice, first by --set 'split: careful'"),
             ({"sets": ["price: EUR"]}, "x:1: 'price' is set twice, first by --set 'price: EUR'"),
-            ({"asks": ["weekly"]}, "x: --ask 'weekly': what is asked is 'daily', 'hourly', 'every STEP' or 'at POINT ..'"),
+            ({"asks": ["weekly"]}, f"x: --ask 'weekly': what is asked is {ASKS}"),
             ({"asks": ["at 2026-10"]}, "x: --ask 'at 2026-10': '2026-10' is a period"),
         ]
         for options, said in cases:
@@ -175,7 +176,7 @@ class Read(unittest.TestCase):
         knots = read("2026-10-01\n2026-11-01 29.40\n2026-12-01 31.85\ndaily\n")
         self.assertEqual((names.knots, names.averages, names.start, names.unit), (knots.knots, knots.averages, knots.start, knots.unit))
         self.assertEqual((names.knot_lines, knots.knot_lines), ([1, 1, 2], [1, 2, 3]))
-        self.assertEqual(names.asked[0].edges, [float(k) for k in range(62)])
+        self.assertEqual(names.asked[0].at, [float(k) for k in range(62)])
 
     def test_a_year_or_a_knot(self):
         self.assertEqual(read("2027 45.10\n2028 46\nat 2027-01-01\n").knots, [0.0, 365.0, 731.0])
@@ -195,7 +196,7 @@ class Read(unittest.TestCase):
 
     def test_rows(self):
         def edges(text):
-            return next(one.edges for one in read(text).asked if isinstance(one, Rows))
+            return next(one.at for one in read(text).asked if isinstance(one, Rows))
 
         self.assertEqual(edges("0\n2.5 1\ndaily\n"), [0.0, 1.0, 2.0, 2.5])
         self.assertEqual(edges("0\n2 1\nhourly\n"), [0.0, 1.0, 2.0])

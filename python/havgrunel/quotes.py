@@ -39,7 +39,7 @@ def told(point: Point, clocked: bool) -> str:
     return point.isoformat(" ", "minutes") if clocked or (point.hour, point.minute, point.second) != (0, 0, 0) else point.date().isoformat()
 
 
-class Strip:
+class Quotes:
     """Knots and averages as lines give them, each with its line. The first average stands for no period."""
 
     def __init__(self, first_not_read: bool = False) -> None:
@@ -118,8 +118,9 @@ class Strip:
         self.averages.append(price(found[-1]))
         self.keep(end, line)
         self.by_ends = by_ends
-        if by_ends and isinstance(start, datetime.datetime) and isinstance(end, datetime.datetime) and is_last_day(start, end):
-            self.doubts.append((line, f"END is the day after the last day, so that {told(end, False)} is no part of this period"))
+        doubt = doubted(start, end, "period") if by_ends else ""
+        if doubt:
+            self.doubts.append((line, doubt))
 
     def ends(self, found: List[Item]) -> Tuple[Point, Point, bool]:
         """Where a line's period starts and ends, and whether it says so itself."""
@@ -180,6 +181,13 @@ def distance(start: Moment, moment: Moment, hours: bool) -> float:
     """Days or hours from the start on, rounded once."""
     passed = moment - start
     return (passed.days * 86400 + passed.seconds) / (3600 if hours else 86400)
+
+
+def doubted(start: Point, end: Point, what: str) -> str:
+    """What is told of an end that was written as the last day, by the looks of it; nothing of others."""
+    if not isinstance(start, datetime.datetime) or not isinstance(end, datetime.datetime) or not is_last_day(start, end):
+        return ""
+    return f"END is the day after the last day, so that {told(end, False)} is no part of this {what}"
 
 
 def is_last_day(start: Moment, end: Moment) -> bool:
