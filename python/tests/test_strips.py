@@ -3,6 +3,7 @@
 import copy
 import ctypes
 import math
+import os
 import pickle
 import random
 import unittest
@@ -10,8 +11,12 @@ from array import array
 
 from havgrunel import MOST_POINTS, SLOTS, Curve, Method, Refused
 from havgrunel._library import load
+from havgrunel.answers import curve_of
 from havgrunel.curve import SPLITS
+from havgrunel.text import read_order
+from runs import HOME, example
 from test_curve import FALLING, FREE, GROWING, THREE, Refusing, bits, drawn
+from test_knots import kinds, tenths
 
 NAN = math.nan
 
@@ -232,6 +237,110 @@ class Columns(Refusing):
         self.refused(9, None, Curve.first_window, *GROWING, 2, 5, column=True)
         longest = Curve(range(MOST_POINTS), range(MOST_POINTS), column=True)
         self.assertEqual(longest.strip_between(0, MOST_POINTS - 1), longest.strip(0, MOST_POINTS - 1))
+
+
+class ThePage(unittest.TestCase):
+    """What docs/SHAPES.md says of strips, of tables that are drawn here: all of them with the safe split at quadraticity 0.3, and a few with the others."""
+
+    FEW = 60
+
+    @classmethod
+    def setUpClass(cls):
+        with open(os.path.join(HOME, "docs", "SHAPES.md"), encoding="utf-8") as file:
+            cls.part = " ".join(file.read().partition("## One price from day to day\n")[2].partition("\n## ")[0].split())
+        cls.draw, cls.kinds = staticmethod(kinds()[0]), kinds()[1]
+
+    def methods(self):
+        """Each method with the part of a full draw that it is tried on."""
+        for split in SPLITS:
+            for quadraticity in 0.0, 0.3, 1.0:
+                yield Method(quadraticity, 0.7, True, split), 1.0 if (split, quadraticity) == ("safe", 0.3) else self.FEW / 2500
+
+    def tables(self, what, kind, count):
+        """Drawn tables, with the source that drew them."""
+        source = random.Random(f"{what} {kind}")
+        for _ in range(int(count)):
+            yield self.draw(source, self.kinds[kind]), source
+
+    def test_a_whole_period(self):
+        """It is worth what it traded at, and no less where it has lost its average."""
+        most, lost, missing = 0.0, 0, set()
+        for method, part in self.methods():
+            for kind in self.kinds:
+                for (knots, averages), _ in self.tables("strips", kind, 2500 * part):
+                    curve = Curve(knots, averages, method)
+                    for k, (strip, traded) in enumerate(zip(curve.averages(knots), averages[1:])):
+                        if not math.isfinite(strip):
+                            self.assertTrue(0.0 in averages[k + 1 : k + 3], (knots, averages))
+                            missing.add((kind, method.split))
+                            continue
+                        most = max(most, abs(strip - traded) / max(averages))
+                        if method.split == "original" and method.quadraticity == 0:
+                            section = curve.sections[k]
+                            held = (section.primitive(knots[k + 1]) - section.primitive(knots[k])) / (knots[k + 1] - knots[k])
+                            lost += abs(held - traded) > 1e-3 * traded
+        self.assertIn("further from the period's average than 3e-15 of the table's highest", self.part)
+        self.assertTrue(2e-15 < most < 3e-15, most)
+        self.assertGreater(lost, self.FEW)
+        self.assertEqual(missing, {("free", "original"), ("free", "careful")})
+
+    def test_a_long_table(self):
+        source = random.Random(7)
+        averages = [0.0, *(round(source.uniform(15, 60), 2) for _ in range(MOST_POINTS - 1))]
+        days = Curve(range(MOST_POINTS), averages, Method.gas()).averages(range(MOST_POINTS))
+        most = max(abs(day - traded) for day, traded in zip(days, averages[1:])) / max(averages)
+        self.assertIn(f"in a table of 4,095 single days it came to {tenths(most)}", self.part)
+
+    def test_a_period_that_lost_its_average(self):
+        with open(example("winter-gas-splits.txt"), "rb") as file:
+            curve = curve_of(read_order("winter", file.read()))
+        first, second, last, whole = (f"{curve.strip(a, b):.4f}" for a, b in ((31, 46), (46, 61), (60, 61), (31, 61)))
+        self.assertIn(f"averages {first}, the second {second} and its last day alone {last}, and the whole is {whole}", self.part)
+
+    def test_beside_an_average_below_0(self):
+        with open(example("power-negative-positivity.txt"), "rb") as file:
+            curve = curve_of(read_order("power", file.read()))
+        self.assertIn(f"a strip of {curve.strip(12, 16):.4f}, and the block at 12 before it one of {curve.strip(8, 12):.4f}", self.part)
+
+    def test_half_a_month(self):
+        told = []
+        for kind in "calm", "wild":
+            apart = []
+            for (knots, averages), source in self.tables("halves", kind, 10000):
+                k = source.randrange(len(knots) - 1)
+                half = Curve(knots, averages, Method.gas(split="safe")).strip(knots[k], knots[k] + 15)
+                apart.append(abs(half / averages[k + 1] - 1) * 100)
+            told.append((sorted(apart)[5000], max(apart)))
+        (calm, calm_most), (wild, wild_most) = told
+        words = f"lay {calm:.1f} percent of the month's average from it in the median and up to {calm_most:.1f} percent in calm tables"
+        self.assertIn(f"{words}, and {wild:.1f} percent and up to {wild_most:.1f} percent in wild ones", self.part)
+        level = Curve([0, 30, 60, 90, 120], [0, 20, 20, 20, 20], Method.gas(split="safe"))
+        self.assertEqual(level.strip(30, 45), 20.0)
+
+    def test_adjoining_strips(self):
+        for method, part in self.methods():
+            same, pairs, most = 0, 0, 0.0
+            for kind in self.kinds:
+                for (knots, averages), source in self.tables("adjoining", kind, 2500 * part):
+                    curve = Curve(knots, averages, method)
+                    a, m, b = sorted(source.sample(range(int(knots[-1]) + 1), 3))
+                    first, second, whole = curve.strips([a, m, a], [m, b, b])
+                    if all(map(math.isfinite, (first, second, whole))):
+                        again = (first * (m - a) + second * (b - m)) / (b - a)
+                        same, pairs, most = same + (again == whole), pairs + 1, max(most, abs(again - whole) / max(averages))
+            if part == 1.0:
+                self.assertEqual(pairs, 10000)
+                self.assertIn(f"{same:,} gave the very bits of the whole, and the others missed them by up to {tenths(most)}", self.part)
+            else:
+                self.assertTrue(0 < same < pairs and most < 5e-16, (method, same, pairs, most))
+
+    def test_the_halves_of_a_november(self):
+        with open(example("winter-strips.txt"), "rb") as file:
+            curve = curve_of(read_order("winter", file.read()))
+        first, second, whole = curve.strips([31, 46, 31], [46, 61, 61])
+        again = (first * 15 + second * 15) / 30
+        self.assertIn(f"{first!r} and {second!r}. Each for 15 days of 30, they come to {again!r}; the strip over November is {whole!r},", self.part)
+        self.assertEqual(len({again, whole, 31.85}), 3)
 
 
 def doubles(*numbers):
