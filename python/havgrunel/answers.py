@@ -55,8 +55,8 @@ class OverRow(NamedTuple):
 
 
 class OverStrip(NamedTuple):
-    """An answer to 'strip': its start and end, its average, and the lowest and the highest that a period which it touches traded at. It touches none where it
-    lies outside the table."""
+    """An answer to 'strip': its start and end, its average, and the lowest and the highest that a period which it touches traded at. Outside the table it
+    touches none."""
 
     start: float
     end: float

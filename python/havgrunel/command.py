@@ -1,5 +1,5 @@
-"""Answers a strip of traded averages: day by day, hour by hour or at points, as
-a table, a CSV file or a picture.
+"""Answers traded averages: day by day, hour by hour, at points or as one price
+from day to day, as a table, a CSV file or a picture.
 
 An order is a short text. Settings come first, then the table, then what is
 asked:

@@ -74,7 +74,8 @@ class Tail(NamedTuple):
 
 
 class _Room:
-    """Buffers for the curve of so many points, and for its column where one is asked for; empty ones for a number that is refused whatever room there is."""
+    """Buffers for the curve of so many points, and for its column where one is asked for; empty ones for a number that is refused whatever room there
+    is."""
 
     def __init__(self, points: int, column: bool = False) -> None:
         points = points if 2 <= points <= MOST_POINTS else 0

@@ -1,8 +1,8 @@
 """Orders and their curves as a picture: draw(orders, curves) is the text of an SVG.
 
 The traded averages are steps, a curve is a line, and where one order asks for rows (daily, hourly, every) each row's average is a bar, as it is printed;
-where it asks for strips, each is a level line over its days. A picture shows one table, under one set of settings or several. It is light or dark as its reader's screen is, and carries its title and a sentence of
-description for readers who don't see it.
+where it asks for strips, each is a level line over its days. A picture shows one table, under one set of settings or several. It is light or dark as its
+reader's screen is, and carries its title and a sentence of description for readers who don't see it.
 """
 
 import math
@@ -82,7 +82,7 @@ class Drawn:
 
 
 def edges_of(order: Order) -> Tuple[List[float], bool]:
-    """The knots and, with extrapolation, how far out points are asked for: the length of the strip at the most, on either side."""
+    """The knots and, with extrapolation, how far out points are asked for: the length of the table at the most, on either side."""
     knots = list(order.knots)
     if not order.settings["extrapolation"]:
         return knots, False
@@ -183,7 +183,7 @@ def content(orders: Sequence[Order], curves: Sequence[Curve]) -> Content:
 
 
 def heights(shown: Content) -> Scale:
-    """The lowest price and the highest that a picture shows, with some air. What is carried on beyond the ends is shown as far as the strip's own height
+    """The lowest price and the highest that a picture shows, with some air. What is carried on beyond the ends is shown as far as the table's own height
     below and above it, and is cut off there: nothing holds it."""
     first, last = shown.first.knots[0], shown.first.knots[-1]
     within: List[float] = list(shown.first.averages[1:])
@@ -347,8 +347,13 @@ def ground(shown: Content, frame: Frame, marks: List[Mark]) -> List[str]:
 def steps(order: Order, frame: Frame) -> str:
     """The traded averages."""
     periods = zip(order.knots, order.knots[1:], order.averages[1:])
-    path = "".join(f"M{at(frame.across(a))} {at(frame.down(average))}H{at(frame.across(b))}" for a, b, average in periods)
+    path = "".join(level(frame, a, b, average) for a, b, average in periods)
     return f'<path d="{path}" {painted("step")} stroke-width="2.5"/>'
+
+
+def level(frame: Frame, a: float, b: float, height: float) -> str:
+    """A level line."""
+    return f"M{at(frame.across(a))} {at(frame.down(height))}H{at(frame.across(b))}"
 
 
 # A strip stands out from the bars under it; its colour is that of a third curve, which is never drawn with it.
@@ -357,7 +362,7 @@ LEVEL = f'{painted("curve3")} stroke-width="5"'
 
 def strip_lines(strips: Sequence[Level], frame: Frame) -> List[str]:
     """A level line over the days of each strip whose price is a number."""
-    path = "".join(f"M{at(frame.across(a))} {at(frame.down(price))}H{at(frame.across(b))}" for a, b, price in strips if math.isfinite(price))
+    path = "".join(level(frame, *strip) for strip in strips if math.isfinite(strip.price))
     return [f'<path d="{path}" {LEVEL}/>'] if path else []
 
 
@@ -373,7 +378,7 @@ def row_blocks(rows: Bars, frame: Frame, floor: float) -> List[str]:
     for a, b, average in zip(rows.edges, rows.edges[1:], rows.averages):
         if math.isfinite(average):
             blocks.append(block(frame, a, b, average, floor, min(1.0, 0.3 * (frame.across(b) - frame.across(a)))))
-            tops.append(f"M{at(frame.across(a))} {at(frame.down(average))}H{at(frame.across(b))}")
+            tops.append(level(frame, a, b, average))
     return [f'<path d="{"".join(blocks)}" {painted("row")}/>', f'<path d="{"".join(tops)}" {painted("top")}/>']
 
 

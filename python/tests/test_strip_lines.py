@@ -92,6 +92,7 @@ class Answering(InAFolder):
         self.assertEqual([row[:2] for row in rows], [(31.0, 46.0), (16.0, 65.0), (46.0, 61.0)])
         self.assertEqual([row.average for row in rows], [found.curve.strip(*row[:2]) for row in rows])
         self.assertEqual([row[3:] for row in rows], [(31.85, 31.85), (29.4, 33.6), (31.85, 31.85)])
+        self.assertEqual(found.tables[0].numbers(), [row[2:] for row in rows])
 
     def test_what_a_strip_touches(self):
         """A strip that ends on a knot does not touch the period that starts there; one outside the table touches none."""
@@ -141,9 +142,9 @@ class Answering(InAFolder):
 
     def test_a_strip_below_0(self):
         """The cheap first month, of which the first days average below 0 although positivity is on."""
-        ran = run_gas("-", text="0\n28 0.62\n56 59.03\n85 47.69\nstrip: 8 to 10\n")
-        self.assertIn("below 0 although positivity is on", ran.told)
-        self.assertLess(float(table_rows(ran.out)[0][2]), -2.7)
+        ran = run_gas("-", text="0\n28 0.62\n56 59.03\n85 47.69\nstrip: 8.9 to 9.1\n")
+        self.assertEqual(table_rows(ran.out), [["8.9", "9.1", "-2.7352", "0.6200"]])
+        self.assertIn("standard input:2: the average from 8.9 to 9.1 is -2.7352, below 0 although positivity is on\n", ran.told)
 
     def test_too_many_for_the_bytes(self):
         text = f"settings: gas\n{MONTHS}" + "strip: 2026-11-01 to 2026-11-16\n" * 33
@@ -170,6 +171,14 @@ class Drawing(unittest.TestCase):
         text = MONTHS + "strip: 2026-11-01 to 2026-11-16\n"
         svg = drawn(text, "quadraticity: 1\n" + text)
         self.assertEqual((lengths(svg, "curve3"), "strip price" in texts_of(svg)), ([], False))
+
+    def test_a_price_that_the_curve_never_has(self):
+        """The last day of a month that lost its average carries the loss. The scale reaches it, and where another scale is given it is cut off."""
+        text = "settings: gas\nquadraticity: 0\n2026-10 29.40\n2026-11 31.85\n2026-12 33.60\n2027-01 34.25\nstrip: 2026-11-30 to 2026-12-01\n"
+        self.assertGreater(curve_of(read(text)).strip(60, 61), 500)
+        self.assertIn("500", texts_of(drawn(text)))
+        for shown, high in (True, 60.0), (False, 600.0):
+            self.assertEqual("cut off at the edge" in texts_of(drawn(text, scale=(0.0, high))), shown)
 
     def test_as_far_out_as_a_strip_goes(self):
         text = "extrapolation: on\n0\n10 1\n20 2\nat 5\n"

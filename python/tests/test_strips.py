@@ -240,7 +240,8 @@ class Columns(Refusing):
 
 
 class ThePage(unittest.TestCase):
-    """What docs/SHAPES.md says of strips, of tables that are drawn here: all of them with the safe split at quadraticity 0.3, and a few with the others."""
+    """What docs/SHAPES.md says of strips, of tables that are drawn here: all of them with the safe split at quadraticity 0.3, and a few with the other
+    splits and quadraticities."""
 
     FEW = 60
 
@@ -348,7 +349,8 @@ def doubles(*numbers):
 
 
 class TheCallsThemselves(unittest.TestCase):
-    """What the package never does: buffers that are too short, curves that are none. Every buffer is full of sevens before, and must be so after a refusal."""
+    """What the package never does: buffers that are too short, curves that are none. Every buffer is full of sevens before, and must be so after a
+    refusal."""
 
     MARK = 7.0
 
