@@ -10,10 +10,8 @@ use Rattle.column.proofs.building.grow_with_column.Reads as grow-with-c
 pub strip-between-unique : OneAnswer strip-between.Post
 strip-between-unique κ a r₁ r₂ s t p q = p ∙ sym q
 
-pub build-with-column-unique : OneOutcome build-with-column.Post (λ κ r s.
-    let (_, (_, (_, (_, (_, (nodes, (tags, (slots, (column, _))))))))) = s in columned r (now nodes) (now tags) (now slots) (now column))
+pub build-with-column-unique : OneOutcome build-with-column.Post (λ κ r s. let (_, (_, (_, (_, (_, (nodes, (tags, (slots, (column, _))))))))) = s in columned r (now nodes) (now tags) (now slots) (now column))
 build-with-column-unique κ a r₁ r₂ s t p q = p ∙ sym q
 
-pub grow-with-column-unique : OneOutcome grow-with-column.Post (λ κ r s.
-    let (_, (_, (_, (_, (_, (_, (_, (_, (nodes, (tags, (slots, (column, _)))))))))))) = s in columned r (now nodes) (now tags) (now slots) (now column))
+pub grow-with-column-unique : OneOutcome grow-with-column.Post (λ κ r s. let (_, (_, (_, (_, (_, (_, (_, (_, (nodes, (tags, (slots, (column, _)))))))))))) = s in columned r (now nodes) (now tags) (now slots) (now column))
 grow-with-column-unique κ a r₁ r₂ s t p q = p ∙ sym q

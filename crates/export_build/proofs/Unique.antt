@@ -28,12 +28,8 @@ havgrunel-inner-node-unique κ a r₁ r₂ s t p q = p ∙ sym q
 pub havgrunel-sheet-unique : OneOutcome havgrunel-sheet.Post (λ κ r s. let (_, (_, (_, (_, (_, (_, (_, (_, (_, (_, (_, (_, (nodes, (tags, (slots, (answer, _)))))))))))))))) = s in one-sheet.across r (now nodes) (now tags) (now slots) (now answer))
 havgrunel-sheet-unique κ a r₁ r₂ s t p q = p ∙ sym q
 
-pub havgrunel-build-with-column-unique : OneOutcome havgrunel-build-with-column.Post (λ κ r s.
-    let (_, (_, (_, (_, (_, (_, (_, (_, (_, (_, (nodes, (tags, (slots, (sections, (tail, (column, _)))))))))))))))) = s in
-    acrossColumn r (now nodes) (now tags) (now slots) (now sections) (now tail) (now column))
+pub havgrunel-build-with-column-unique : OneOutcome havgrunel-build-with-column.Post (λ κ r s. let (_, (_, (_, (_, (_, (_, (_, (_, (_, (_, (nodes, (tags, (slots, (sections, (tail, (column, _)))))))))))))))) = s in acrossColumn r (now nodes) (now tags) (now slots) (now sections) (now tail) (now column))
 havgrunel-build-with-column-unique κ a r₁ r₂ s t p q = p ∙ sym q
 
-pub havgrunel-grow-with-column-unique : OneOutcome havgrunel-grow-with-column.Post (λ κ r s.
-    let (_, (_, (_, (_, (_, (_, (_, (_, (_, (_, (_, (_, (_, (nodes, (tags, (slots, (sections, (tail, (column, _))))))))))))))))))) = s in
-    acrossColumn r (now nodes) (now tags) (now slots) (now sections) (now tail) (now column))
+pub havgrunel-grow-with-column-unique : OneOutcome havgrunel-grow-with-column.Post (λ κ r s. let (_, (_, (_, (_, (_, (_, (_, (_, (_, (_, (_, (_, (_, (nodes, (tags, (slots, (sections, (tail, (column, _))))))))))))))))))) = s in acrossColumn r (now nodes) (now tags) (now slots) (now sections) (now tail) (now column))
 havgrunel-grow-with-column-unique κ a r₁ r₂ s t p q = p ∙ sym q

@@ -10,10 +10,10 @@ use Rattle.export_strip.proofs.places.havgrunel_strip_between.Reads as 
 pub havgrunel-strip-unique : OneOutcome havgrunel-strip.Post (λ κ r s. let (_, (_, (_, (_, (_, (_, (_, (_, (_, (answer, _)))))))))) = s in pair r (now answer))
 havgrunel-strip-unique κ a r₁ r₂ s t p q = p ∙ sym q
 
-pub havgrunel-strips-unique : OneOutcome havgrunel-strips.Post (λ κ r s. let (_, (_, (_, (_, (_, (_, (_, (_, (_, (answer, _)))))))))) = s in pair r (now answer))
+pub havgrunel-strips-unique : OneOutcome havgrunel-strips.Post (λ κ r s. let (_, (_, (_, (_, (_, (_, (_, (_, (_, (answers, _)))))))))) = s in pair r (now answers))
 havgrunel-strips-unique κ a r₁ r₂ s t p q = p ∙ sym q
 
-pub havgrunel-strip-run-unique : OneOutcome havgrunel-strip-run.Post (λ κ r s. let (_, (_, (_, (_, (_, (_, (_, (_, (answer, _))))))))) = s in pair r (now answer))
+pub havgrunel-strip-run-unique : OneOutcome havgrunel-strip-run.Post (λ κ r s. let (_, (_, (_, (_, (_, (_, (_, (_, (answers, _))))))))) = s in pair r (now answers))
 havgrunel-strip-run-unique κ a r₁ r₂ s t p q = p ∙ sym q
 
 pub havgrunel-strip-between-unique : OneOutcome havgrunel-strip-between.Post (λ κ r s. let (_, (_, (_, (_, (answer, _))))) = s in pair r (now answer))
