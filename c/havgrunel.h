@@ -29,7 +29,7 @@ extern "C" {
 /* The refusals. A call that could be refused for several reasons tells the first in its own order, which is said at each function. */
 enum havgrunel_refusal {
     HAVGRUNEL_ACCEPTED = 0,
-    HAVGRUNEL_LENGTHS_DIFFER = 1,         /* there are not as many averages as knots */
+    HAVGRUNEL_LENGTHS_DIFFER = 1,         /* there are not as many averages as knots, or not as many ends as starts */
     HAVGRUNEL_MONOTONICITY_OUTSIDE = 2,   /* the monotonicity is not a number from 0 to 1 */
     HAVGRUNEL_QUADRATICITY_OUTSIDE = 3,   /* the quadraticity is not a number from 0 to 1 */
     HAVGRUNEL_TOO_FEW_POINTS = 4,         /* there are fewer than two knots */

@@ -4,7 +4,7 @@ from typing import Dict, Optional
 
 # The words are those of c/havgrunel.h, which tools/refusals compares. 17 is told of an order's bytes alone.
 REFUSALS: Dict[int, str] = {
-    1: "there are not as many averages as knots",
+    1: "there are not as many averages as knots, or not as many ends as starts",
     2: "the monotonicity is not a number from 0 to 1",
     3: "the quadraticity is not a number from 0 to 1",
     4: "there are fewer than two knots",

@@ -34,7 +34,7 @@ macro_rules! refusals {
 }
 
 refusals! {
-    LengthsDiffer = 1, "there are not as many averages as knots";
+    LengthsDiffer = 1, "there are not as many averages as knots, or not as many ends as starts";
     MonotonicityOutside = 2, "the monotonicity is not a number from 0 to 1";
     QuadraticityOutside = 3, "the quadraticity is not a number from 0 to 1";
     TooFewPoints = 4, "there are fewer than two knots";
