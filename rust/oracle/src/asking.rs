@@ -1,7 +1,7 @@
 //! Requests and answers by lines of text; the grammar stands in the README.
 
 use crate::{Curve, Recipe, Record, Refusal, Seam, Section, Settings, words};
-use crate::{build_with, default_settings, grow, knots, nodes, root, section};
+use crate::{build_with, column, default_settings, grow, knots, nodes, root, section, strip};
 
 /// Answers requests, keeping the section and the curve made last.
 #[derive(Default)]
@@ -31,6 +31,7 @@ impl Asked {
             "build" => self.build(&mut given)?,
             "grow" => self.grow(&mut given)?,
             "query" => self.query(&mut given)?,
+            "strip" => self.strip(&mut given)?,
             "derivative" => self.derivative(&mut given)?,
             "forget" => {
                 *self = Asked::default();
@@ -122,6 +123,8 @@ impl Asked {
         answer += "\nn";
         let nodes = nodes(settings, x, y, seam).expect("a table that builds has nodes");
         words::push_floats(&mut answer, &nodes);
+        answer += "\nu";
+        words::push_floats(&mut answer, &column(&curve, x));
         self.curve = Some(curve);
         answer + "\n"
     }
@@ -130,13 +133,25 @@ impl Asked {
         let allow = given.flag()?;
         let x = given.float()?;
         given.end()?;
-        let curve = self.curve.take().ok_or("no curve was made yet")?;
-        let curve = curve.with_extrapolation(allow);
+        let curve = self.allowing(allow)?;
         let told = curve
             .value(x)
             .and_then(|value| Ok([value, curve.primitive(x)?]));
-        self.curve = Some(curve);
         Ok(told_line('q', told))
+    }
+
+    fn strip(&mut self, given: &mut Given) -> Result<String, Malformed> {
+        let allow = given.flag()?;
+        let (a, b) = (given.float()?, given.float()?);
+        given.end()?;
+        let price = strip(self.allowing(allow)?, a, b);
+        Ok(told_line('p', price.map(|price| [price])))
+    }
+
+    /// The curve made last, once it may answer outside its knots or may not.
+    fn allowing(&mut self, allow: bool) -> Result<&Curve, Malformed> {
+        let curve = self.curve.take().ok_or("no curve was made yet")?;
+        Ok(self.curve.insert(curve.with_extrapolation(allow)))
     }
 
     fn derivative(&mut self, given: &mut Given) -> Result<String, Malformed> {

@@ -12,6 +12,7 @@ mod recipe;
 mod record;
 mod refusal;
 mod settings;
+mod strips;
 mod totals;
 pub mod words;
 
@@ -55,6 +56,7 @@ pub use recipe::{Convex, Quadratic, Recipe};
 pub use record::{FIELDS, Record, legal_tags};
 pub use refusal::Refusal;
 pub use settings::{Seam, Settings};
+pub use strips::{column, strip};
 pub use totals::totals;
 
 /// Whether the original's text was found when this crate was built.

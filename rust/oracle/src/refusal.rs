@@ -1,6 +1,6 @@
-//! The original refuses in words; the document refuses in numbers.
+//! The original refuses in words; the documents refuse in numbers.
 
-/// A refusal that the original can give, with the document's number.
+/// A refusal that the original can give, with the document's number, and that of strips, which it does not have.
 #[derive(Clone, Copy, Debug, PartialEq, Eq, PartialOrd, Ord)]
 #[repr(u8)]
 pub enum Refusal {
@@ -16,6 +16,7 @@ pub enum Refusal {
     QueryIsNan = 12,
     QueryOutside = 13,
     Derivative = 14,
+    StripEndsNotRising = 18,
 }
 
 use Refusal::*;

@@ -16,26 +16,32 @@ fn a_build_and_its_queries() {
 
     let two = ask(format!("build 0 0 0 0 2 0 {TWO} 2 4022000000000000 {TWO}"));
     let lines: Vec<&str> = two.lines().collect();
-    assert_eq!(lines.len(), 5);
+    assert_eq!(lines.len(), 6);
     assert_eq!(lines[0], "b 0 1");
     assert!(lines[1].starts_with("t 100 0 0 "), "{}", lines[1]);
     assert_eq!(lines[2], format!("k {TWO} {TWO} {FOUR}"));
     assert_eq!(lines[3], format!("e {TWO} 0 0"));
     assert_eq!(lines[4], "n 0 0");
+    assert_eq!(lines[5], format!("u 0 {FOUR}"));
     assert_eq!(ask(format!("query 0 {ONE}")), format!("q 0 {TWO} {TWO}\n"));
     assert_eq!(ask(format!("query 0 {TWO}")), format!("q 0 {TWO} {FOUR}\n"));
 
     let table = format!("3 0 {ONE} {TWO} 3 0 {ONE} {THREE}");
     let three = ask(format!("build 0 0 0 {ONE} {table}"));
-    assert_eq!(
-        three.lines().last(),
-        Some("n 3fe0000000000000 4000000000000000 400c000000000000")
-    );
+    let nodes = "n 3fe0000000000000 4000000000000000 400c000000000000";
+    let column = format!("u 0 {ONE} {FOUR}");
+    assert!(three.lines().rev().take(2).eq([&column, nodes]));
     let minus = "bff0000000000000";
     assert_eq!(ask(format!("query 0 {minus}")), "q d 0 0\n");
     let value = ask(format!("query 1 {minus}"));
     assert!(value.starts_with(&format!("q 0 {TWO} ")), "{value}");
     assert_eq!(ask(format!("derivative {ONE}")), "d e 0\n");
+    assert_eq!(ask(format!("strip 0 0 {TWO}")), format!("p 0 {TWO}\n"));
+    assert_eq!(
+        ask(format!("strip 0 {ONE} {TWO}")),
+        format!("p 0 {THREE}\n")
+    );
+    assert_eq!(ask(format!("strip 1 {TWO} {ONE}")), "p 12 0\n");
 
     let seam = |count: usize| format!("build 0 0 0 {ONE} {table} {count} {TWO}");
     assert!(ask(seam(1)).starts_with("b 0 2\n"));
@@ -92,6 +98,7 @@ fn what_is_no_request_is_said_to_be_none() {
         "section a",
         "section 1 0 0",
         "query 0 0",
+        "strip 0 0 1",
         "build 2",
     ] {
         assert!(asked.answer(line).is_err(), "{line}");

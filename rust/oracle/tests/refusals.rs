@@ -2,7 +2,7 @@
 #![cfg(original)]
 
 use oracle::Refusal::*;
-use oracle::{Refusal, Seam, Settings, build, build_with, default_settings, grow, nodes};
+use oracle::{Refusal, Seam, Settings, build, build_with, default_settings, grow, nodes, strip};
 
 const NAN: f64 = f64::NAN;
 
@@ -54,6 +54,25 @@ fn queries_refuse() {
     assert_eq!(curve.value(-1.0), Ok(1.0));
     assert_eq!(curve.value(f64::INFINITY), Ok(1.0));
     assert_eq!(curve.value(NAN), Err(QueryIsNan));
+}
+
+/// The refusals of the first end come before those of the second, and that the ends do not rise comes last.
+#[test]
+fn strips_refuse_in_order() {
+    let settings = default_settings();
+    let curve = build(&settings, &[0.0, 1.0, 2.0], &[0.0, 1.0, 3.0]).expect("builds");
+    assert_eq!(strip(&curve, NAN, 3.0), Err(QueryIsNan));
+    assert_eq!(strip(&curve, 3.0, NAN), Err(QueryOutside));
+    assert_eq!(strip(&curve, 1.0, NAN), Err(QueryIsNan));
+    assert_eq!(strip(&curve, 1.0, -1.0), Err(QueryOutside));
+    assert_eq!(strip(&curve, 1.0, 1.0), Err(StripEndsNotRising));
+    assert_eq!(strip(&curve, 2.0, 0.0), Err(StripEndsNotRising));
+    assert_eq!(StripEndsNotRising.number(), 18);
+    assert_eq!(strip(&curve, 0.0, 2.0), Ok(2.0));
+    let curve = curve.with_extrapolation(true);
+    assert_eq!(strip(&curve, 3.0, -1.0), Err(StripEndsNotRising));
+    assert_eq!(strip(&curve, NAN, NAN), Err(QueryIsNan));
+    assert!(strip(&curve, -1.0, 3.0).is_ok());
 }
 
 #[test]

@@ -3,6 +3,7 @@
 use super::Answers;
 use super::rng::Rng;
 use super::tables::{self, LONGEST, Points, STYLES};
+use super::thinned;
 use super::told::Told;
 use crate::{Seam, Settings, words};
 
@@ -23,21 +24,22 @@ pub struct Table {
 
 pub fn write() -> Answers {
     let mut rng = Rng::new(SEED);
-    let mut told = Told::default();
+    let mut told = Told::new();
     for turn in 0..DRAWN {
         let table = draw(&mut rng, turn);
         let queries = tables::queries(&mut rng, &table.points.x, turn);
-        told.build(&table.words());
-        for (allow, x) in queries {
+        table.build(&mut told);
+        for (allow, x) in thinned(queries, turn) {
             told.query(allow, x);
         }
     }
     for table in refused() {
-        told.build(&table.words());
+        table.build(&mut told);
     }
     let counts = [
         ("builds", told.builds.asked),
         ("builds refused", told.builds.refused),
+        ("curve strips", told.strips),
         ("curve queries", told.queries),
     ];
     Answers {
@@ -47,7 +49,11 @@ pub fn write() -> Answers {
 }
 
 impl Table {
-    pub fn words(&self) -> String {
+    pub fn build(&self, told: &mut Told) {
+        told.build(&self.words(), &self.points.x);
+    }
+
+    fn words(&self) -> String {
         let mut words = String::new();
         self.points.push_positivity(&mut words);
         words::push(&mut words, self.hold.into());

@@ -45,7 +45,7 @@ struct Growth {
 
 pub fn write() -> Answers {
     let mut rng = Rng::new(SEED);
-    let mut told = Told::default();
+    let mut told = Told::new();
     for turn in 0..SEQUENCES.len() {
         sequence(&mut told, &mut rng, turn);
     }
@@ -56,6 +56,7 @@ pub fn write() -> Answers {
         ("growths", told.growths.asked),
         ("growths refused", told.growths.refused),
         ("builds to grow from", told.builds.asked),
+        ("grown strips", told.strips),
         ("grown queries", told.queries),
     ];
     Answers {
@@ -65,6 +66,10 @@ pub fn write() -> Answers {
 }
 
 impl Growth {
+    fn grow(&self, told: &mut Told) {
+        told.grow(&self.words(), &self.points.x);
+    }
+
     fn words(&self) -> String {
         let mut words = String::new();
         self.points.push_positivity(&mut words);
@@ -97,7 +102,7 @@ fn sequence(told: &mut Told, rng: &mut Rng, turn: usize) {
             localisation,
             final_size,
         };
-        told.grow(&growth.words());
+        growth.grow(told);
         ask(told, rng, &growth.points.x, turn + points);
         change(rng, style, &mut whole.y, points);
     }
@@ -127,10 +132,10 @@ fn retained(told: &mut Told) {
         for held in [true, false] {
             for next in 2..=4 {
                 first_window(told, points, held);
-                told.grow(&past_window(changed.first(next)).words());
+                past_window(changed.first(next)).grow(told);
             }
             build(told, points, held);
-            told.grow(&past_window(changed.first(points + 1)).words());
+            past_window(changed.first(points + 1)).grow(told);
         }
     }
 }
@@ -142,7 +147,7 @@ fn first_window(told: &mut Told, points: usize, held: bool) {
         localisation: points - 1,
         final_size: if held { points + 1 } else { points },
     };
-    told.grow(&growth.words());
+    growth.grow(told);
 }
 
 /// The same curve, built.
@@ -152,7 +157,7 @@ fn build(told: &mut Told, points: usize, held: bool) {
         hold: held,
         seam: None,
     };
-    told.build(&table.words());
+    table.build(told);
 }
 
 /// A growth that is not in its first window, however few points it has.
@@ -170,7 +175,7 @@ fn past_window(points: Points) -> Growth {
 fn refused(told: &mut Told) {
     first_window(told, 2, false);
     told.forget();
-    told.grow(&past_window(Points::sound()).words());
+    past_window(Points::sound()).grow(told);
     for (place, points) in tables::refused().into_iter().enumerate() {
         // Two that stand together have like faults.
         let in_window = place / 2 % 2 == 0;
@@ -181,13 +186,13 @@ fn refused(told: &mut Told) {
                     localisation,
                     final_size: 0,
                 };
-                told.grow(&window.words());
+                window.grow(told);
             }
             None => {
-                let past = past_window(points).words();
+                let past = past_window(points);
                 first_window(told, 2, false);
-                told.grow(&past);
-                told.grow(&past);
+                past.grow(told);
+                past.grow(told);
             }
         }
     }

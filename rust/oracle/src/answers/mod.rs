@@ -7,6 +7,7 @@ mod queries;
 pub mod rng;
 mod roots;
 mod sections;
+mod strips;
 mod tables;
 mod told;
 
@@ -17,6 +18,13 @@ pub struct Answers {
     pub lines: String,
     /// What was written and how many, in the order written.
     pub counts: Vec<(String, usize)>,
+}
+
+/// Two of three, others from turn to turn: each sort of case stays, with fewer of it.
+fn thinned<T>(cases: Vec<T>, turn: usize) -> impl Iterator<Item = T> {
+    let placed = cases.into_iter().enumerate();
+    let kept = placed.filter(move |(place, _)| !(place + turn).is_multiple_of(3));
+    kept.map(|(_, case)| case)
 }
 
 /// The settings that the original takes when none are named: a line `m`.
@@ -40,12 +48,12 @@ pub fn sections() -> Answers {
     sections::write()
 }
 
-/// The curves: lines `c`, `b`, `t`, `k`, `e`, `n` and `a`.
+/// The curves: lines `c`, `b`, `t`, `k`, `e`, `n`, `u`, `p` and `a`.
 pub fn curves() -> Answers {
     curves::write()
 }
 
-/// The growths: lines `g`, `b`, `t`, `k`, `e`, `n`, `a` and `f`, and some `c`.
+/// The growths: lines `g`, `b`, `t`, `k`, `e`, `n`, `u`, `p`, `a` and `f`, and some `c`.
 pub fn growth() -> Answers {
     growth::write()
 }

@@ -14,7 +14,7 @@ const SIGN: u64 = 1 << 63;
 pub fn write() -> Answers {
     let mut rng = Rng::new(SEED);
     let groups = [
-        ("each exponent", exponents(&mut rng)),
+        ("two of three exponents", exponents(&mut rng)),
         ("powers of two", powers()),
         ("squares and neighbours", squares(&mut rng)),
         ("halfway neighbours", halfway(&mut rng)),
@@ -43,14 +43,14 @@ pub fn write() -> Answers {
     Answers { lines, counts }
 }
 
-/// One number of every exponent, the sizes of subnormals included.
+/// One number of each size of a subnormal, and of two exponents of three, odd ones and even ones alike.
 fn exponents(rng: &mut Rng) -> Vec<u64> {
     let mut group = Vec::new();
     for size in 0..52 {
         let top = 1 << size;
         group.push(top | rng.word() & (top - 1));
     }
-    for exponent in 1..2047 {
+    for exponent in (1..2047).filter(|exponent| exponent % 3 != 0) {
         group.push(exponent << 52 | rng.word() & DIGITS);
     }
     group
@@ -74,7 +74,7 @@ fn squares(rng: &mut Rng) -> Vec<u64> {
     for root in [1.0, 2.0, 3.0, 10.0, 48.0, 94_906_265.0_f64] {
         group.extend(with_neighbours((root * root).to_bits()));
     }
-    for _ in 0..40 {
+    for _ in 0..27 {
         // At most 26 bits, so that the square is exact.
         let size = rng.below(26) + 1;
         let root = (1 << (size - 1)) | rng.below(1 << (size - 1));
@@ -90,7 +90,7 @@ fn squares(rng: &mut Rng) -> Vec<u64> {
 /// last bit of the root is decided.
 fn halfway(rng: &mut Rng) -> Vec<u64> {
     let mut group = Vec::new();
-    for _ in 0..70 {
+    for _ in 0..47 {
         let root = 1 << 52 | rng.word() & DIGITS;
         let twice = u128::from(2 * root + 1);
         let square = twice * twice;

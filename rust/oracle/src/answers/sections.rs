@@ -3,6 +3,7 @@
 use super::Answers;
 use super::queries::queries;
 use super::rng::Rng;
+use super::thinned;
 use crate::asking::record_line;
 use crate::{Convex, Quadratic, Recipe, legal_tags, section, words};
 
@@ -65,8 +66,7 @@ pub fn write() -> Answers {
     let mut lines = String::new();
     let mut counts = Vec::new();
     for tag in legal_tags() {
-        let combined = tag >> 13 != 0 && tag & 0x0f00 != 0;
-        let count = if combined { COMBINED } else { ALONE };
+        let count = if is_combined(tag) { COMBINED } else { ALONE };
         let mut asked = 0;
         for turn in 0..count {
             let style = STYLES[turn % STYLES.len()];
@@ -76,6 +76,10 @@ pub fn write() -> Answers {
         counts.push((format!("queries, tag {tag:04x}"), asked));
     }
     Answers { lines, counts }
+}
+
+fn is_combined(tag: u16) -> bool {
+    tag >> 13 != 0 && tag & 0x0f00 != 0
 }
 
 /// Writes a section with that tag and its queries, whose number it answers.
@@ -91,7 +95,11 @@ fn one(rng: &mut Rng, tag: u16, style: Style, turn: usize, lines: &mut String) -
         recipe.push(lines);
         lines.push('\n');
         *lines += &record_line(&record, made.f_next());
-        let asked = queries(rng, &recipe, &record, turn);
+        let mut asked = queries(rng, &recipe, &record, turn);
+        // A tag of few sections is asked at all of its places.
+        if !is_combined(tag) {
+            asked = thinned(asked, turn).collect();
+        }
         for &x in &asked {
             lines.push('x');
             words::push_floats(lines, &[x, made.value(x), made.primitive(x)]);
