@@ -1,4 +1,4 @@
-// The lines that tell a curve: `b`, a `t` and a `k` to each section, `e` and `n`, and then `a` for what it answers.
+// The lines that tell a curve: `b`, a `t` and a `k` to each section, `e`, `n` and `u`, and then `a` for what it answers.
 use crate::kept;
 use crate::kept::Kept;
 use crate::kept::Outcome;
@@ -74,8 +74,8 @@ pub(crate) fn tail_agrees(made: Curve, words: &[u64; MOST]) -> bool {
     numbers::to_bits(tail.from) == words[2]
 }
 
-fn same_nodes(nodes: &[f64], words: &[u64; MOST], count: usize) -> bool {
-    if nodes.len() < count {
+fn same_numbers(list: &[f64], words: &[u64; MOST], count: usize) -> bool {
+    if list.len() < count {
         return false;
     }
     if MOST < count {
@@ -83,7 +83,7 @@ fn same_nodes(nodes: &[f64], words: &[u64; MOST], count: usize) -> bool {
     }
     let mut i = 0;
     while i < count {
-        if numbers::to_bits(nodes[i]) != words[i] {
+        if numbers::to_bits(list[i]) != words[i] {
             return false;
         }
         i += 1;
@@ -94,11 +94,17 @@ fn same_nodes(nodes: &[f64], words: &[u64; MOST], count: usize) -> bool {
 // A line `n NODE ..`: whether the nodes are as it tells. It has one to each knot.
 pub(crate) fn nodes_agree(kept: Kept, words: &[u64; MOST]) -> bool {
     let nodes = kept.nodes;
-    same_nodes(&nodes, words, kept.knots)
+    same_numbers(&nodes, words, kept.knots)
 }
 
-// A refusal is told with zeros.
-fn same(asked: QueryAnswer, refusal: u64, number: u64) -> bool {
+// A line `u TOTAL ..`: whether the column is as it tells. It has a total up to each knot.
+pub(crate) fn column_agrees(kept: Kept, words: &[u64; MOST]) -> bool {
+    let column = kept.column;
+    same_numbers(&column, words, kept.knots)
+}
+
+// Whether an answer is as its refusal and its number tell; a refusal is told with zeros.
+pub(crate) fn same(asked: QueryAnswer, refusal: u64, number: u64) -> bool {
     match asked {
         QueryAnswer::Number(y) => {
             if refusal != 0 {

@@ -59,7 +59,7 @@ fn lent(
     kept::outcome_of(sheets::pieces::build_in_sheets(xs, ys, method, cuts, nodes, tags, slots))
 }
 
-// The buffers start as those of the whole do, so that what is left in them is the same to the last entry.
+// The buffers start as those of the whole do, so that what is left in them is the same to the last entry. Sheets have no column.
 fn built(words: &[u64; MOST], points: Points, cuts: &[usize]) -> Kept {
     let xs = points.xs;
     let ys = points.ys;
@@ -83,6 +83,7 @@ fn built(words: &[u64; MOST], points: Points, cuts: &[usize]) -> Kept {
         nodes,
         tags,
         slots,
+        column: [0.0; POINTS],
     }
 }
 

@@ -46,8 +46,14 @@ fn of_curve(letter: u8, words: &[u64; MOST], count: usize, state: State) -> Stat
     if letter == b'n' {
         return state.nodes(words, count);
     }
+    if letter == b'u' {
+        return state.column(words, count);
+    }
     if letter == b'a' && count == 5 {
         return state.curve_query(words);
+    }
+    if letter == b'p' && count == 5 {
+        return state.strip(words);
     }
     state.strange_line()
 }

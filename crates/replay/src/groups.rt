@@ -12,13 +12,14 @@ use crate::records::Record;
 use crate::roots;
 use crate::sections;
 use crate::seen::Seen;
+use crate::strips;
 use crate::tables;
 use crate::words::MOST;
 use curve::curve::Curve;
 
 // What the next lines are about: a section whose record is not told yet, or that is asked; an outcome that is not told yet; a curve of which so many
-// records were told, one of which the section in the next record was told too but not its knots, one whose end was told too, or one that is told whole
-// and is asked.
+// records were told, one of which the section in the next record was told too but not its knots, one whose end was told too, one whose nodes were told
+// too, or one that is told whole and is asked.
 pub(crate) enum Subject {
     Nothing,
     Made,
@@ -27,6 +28,7 @@ pub(crate) enum Subject {
     Curve(Curve, usize),
     Record(Curve, usize),
     Ended(Curve),
+    Noded(Curve),
     Whole(Curve),
 }
 
@@ -124,6 +126,7 @@ impl State {
             Subject::Outcome => self.strange_line(),
             Subject::Record(_, _) => self.strange_line(),
             Subject::Ended(_) => self.strange_line(),
+            Subject::Noded(_) => self.strange_line(),
             Subject::Whole(_) => self.strange_line(),
             Subject::Nothing => self.strange_line(),
         }
@@ -252,7 +255,45 @@ impl State {
         let seen = self.seen;
         self.with(
             seen.curve_line(curves::nodes_agree(kept, words)),
+            Subject::Noded(made),
+        )
+    }
+
+    // The column, and then the strips from knot to knot, which no line tells.
+    pub(crate) fn column(self, words: &[u64; MOST], count: usize) -> Self {
+        let subject = self.subject;
+        let Subject::Noded(made) = subject else {
+            return self.strange_line();
+        };
+        let kept = self.kept;
+        if count != kept.knots {
+            return self.strange_line();
+        }
+        let seen = self.seen;
+        self.with(
+            seen.column(kept.grown, count, curves::column_agrees(kept, words))
+                .run(kept.grown, made.sections, strips::run_agrees(kept, made)),
             Subject::Whole(made),
+        )
+    }
+
+    pub(crate) fn strip(self, words: &[u64; MOST]) -> Self {
+        let subject = self.subject;
+        let Subject::Whole(made) = subject else {
+            return self.strange_line();
+        };
+        if 1 < words[0] {
+            return self.strange_line();
+        }
+        let seen = self.seen;
+        let kept = self.kept;
+        self.with(
+            seen.strip(
+                kept.grown,
+                strips::at_knots(kept, words),
+                strips::agrees(kept, made, words),
+            ),
+            subject,
         )
     }
 

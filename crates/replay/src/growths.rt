@@ -19,7 +19,7 @@ fn previous_of(outcome: Outcome) -> Previous {
     }
 }
 
-// What knots and averages grow into.
+// What knots and averages grow into, with its column.
 fn lent(
     words: &[u64; MOST],
     xs: &[f64],
@@ -30,11 +30,12 @@ fn lent(
     nodes: &mut [f64],
     tags: &mut [u16],
     slots: &mut [f64],
+    column: &mut [f64],
 ) -> Outcome {
     let method = kept::method(words[0], words[1], words[2]);
     let localisation = words[3] as usize;
     let final_size = words[4] as usize;
-    kept::outcome_of(growth::growth::grow(
+    kept::outcome_of(column::building::grow_with_column(
         xs,
         ys,
         method,
@@ -46,6 +47,7 @@ fn lent(
         nodes,
         tags,
         slots,
+        column,
     ))
 }
 
@@ -58,6 +60,7 @@ fn grown(words: &[u64; MOST], points: Points, last: Kept) -> Kept {
     let mut nodes = [0.0; POINTS];
     let mut tags = [0; TAGS];
     let mut slots = [0.0; ROOM];
+    let mut column = [0.0; POINTS];
     let outcome = lent(
         words,
         points::first(&xs, points.knots),
@@ -68,6 +71,7 @@ fn grown(words: &[u64; MOST], points: Points, last: Kept) -> Kept {
         &mut nodes,
         &mut tags,
         &mut slots,
+        &mut column,
     );
     Kept {
         outcome,
@@ -77,6 +81,7 @@ fn grown(words: &[u64; MOST], points: Points, last: Kept) -> Kept {
         nodes,
         tags,
         slots,
+        column,
     }
 }
 

@@ -24,6 +24,7 @@ pub(crate) struct Kept {
     pub nodes: [f64; POINTS],
     pub tags: [u16; TAGS],
     pub slots: [f64; ROOM],
+    pub column: [f64; POINTS],
 }
 
 pub(crate) fn none() -> Kept {
@@ -35,6 +36,7 @@ pub(crate) fn none() -> Kept {
         nodes: [0.0; POINTS],
         tags: [0; TAGS],
         slots: [0.0; ROOM],
+        column: [0.0; POINTS],
     }
 }
 

@@ -12,6 +12,7 @@ mod records;
 mod roots;
 mod sections;
 mod seen;
+mod strips;
 mod tables;
 mod words;
 
@@ -62,7 +63,11 @@ fn print_built(n: Curves) {
     print_count(b"curves ", n.made);
     print_count(b"curve records ", n.records);
     print_count(b"curve knots ", n.knots);
+    print_count(b"curve column entries ", n.totals);
     print_count(b"curve queries ", n.queries);
+    print_count(b"curve strips ", n.strips);
+    print_count(b"curve strips between knots ", n.between);
+    print_count(b"curve strips in runs ", n.run);
 }
 
 fn print_grown(n: Curves) {
@@ -71,7 +76,11 @@ fn print_grown(n: Curves) {
     print_count(b"grown curves ", n.made);
     print_count(b"grown records ", n.records);
     print_count(b"grown knots ", n.knots);
+    print_count(b"grown column entries ", n.totals);
     print_count(b"grown queries ", n.queries);
+    print_count(b"grown strips ", n.strips);
+    print_count(b"grown strips between knots ", n.between);
+    print_count(b"grown strips in runs ", n.run);
 }
 
 fn print_sheets(n: Sheets) {

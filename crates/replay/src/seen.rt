@@ -4,14 +4,19 @@ ghost use Prim.Native.Nat.{_<_};
 // The nine kinds, of which two are split or not.
 pub(crate) const KINDS: usize = 11;
 
-// What was seen of the curves that were built, or of those that were grown.
+// What was seen of the curves that were built, or of those that were grown: `totals` are the entries of their columns, `between` the strips that
+// were priced by the places of their ends too, and `run` those that were priced in a run.
 pub(crate) struct Curves {
     pub asked: u64,
     pub refused: u64,
     pub made: u64,
     pub records: u64,
     pub knots: u64,
+    pub totals: u64,
     pub queries: u64,
+    pub strips: u64,
+    pub between: u64,
+    pub run: u64,
 }
 
 // What was seen of the tables that were built in sheets too.
@@ -33,12 +38,16 @@ pub(crate) struct Seen {
     pub mismatches: u64,
 }
 
-// One more, unless there is no more.
-fn more(n: u64) -> u64 {
-    if n < 0xffff_ffff_ffff_ffff {
-        return n + 1;
+// So many more, unless there is no room for them.
+fn more_by(n: u64, count: u64) -> u64 {
+    if count <= 0xffff_ffff_ffff_ffff - n {
+        return n + count;
     }
     n
+}
+
+fn more(n: u64) -> u64 {
+    more_by(n, 1)
 }
 
 // Where a kind is counted, by its tag; the split ones stand behind the others.
@@ -68,7 +77,11 @@ impl Curves {
             made: 0,
             records: 0,
             knots: 0,
+            totals: 0,
             queries: 0,
+            strips: 0,
+            between: 0,
+            run: 0,
         }
     }
 
@@ -96,8 +109,28 @@ impl Curves {
         self
     }
 
+    // A column of so many entries.
+    fn column(mut self, entries: usize) -> Self {
+        self.totals = more_by(self.totals, entries as u64);
+        self
+    }
+
     fn query(mut self) -> Self {
         self.queries = more(self.queries);
+        self
+    }
+
+    fn strip(mut self, at_knots: bool) -> Self {
+        self.strips = more(self.strips);
+        if at_knots {
+            self.between = more(self.between);
+        }
+        self
+    }
+
+    // A run of so many strips.
+    fn run(mut self, strips: usize) -> Self {
+        self.run = more_by(self.run, strips as u64);
         self
     }
 }
@@ -225,6 +258,21 @@ impl Seen {
 
     pub(crate) fn curve_query(self, grown: bool, agrees: bool) -> Self {
         self.with_curves(grown, self.curves(grown).query())
+            .judged(agrees)
+    }
+
+    pub(crate) fn column(self, grown: bool, entries: usize, agrees: bool) -> Self {
+        self.with_curves(grown, self.curves(grown).column(entries))
+            .judged(agrees)
+    }
+
+    pub(crate) fn strip(self, grown: bool, at_knots: bool, agrees: bool) -> Self {
+        self.with_curves(grown, self.curves(grown).strip(at_knots))
+            .judged(agrees)
+    }
+
+    pub(crate) fn run(self, grown: bool, strips: usize, agrees: bool) -> Self {
+        self.with_curves(grown, self.curves(grown).run(strips))
             .judged(agrees)
     }
 

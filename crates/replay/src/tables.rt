@@ -10,7 +10,7 @@ use crate::points::Points;
 use crate::words::MOST;
 use table::ends::Seam;
 
-// What knots and averages build.
+// What knots and averages build, with the column of what they build.
 fn lent(
     words: &[u64; MOST],
     xs: &[f64],
@@ -19,10 +19,21 @@ fn lent(
     nodes: &mut [f64],
     tags: &mut [u16],
     slots: &mut [f64],
+    column: &mut [f64],
 ) -> Outcome {
     let method = kept::method(words[0], words[2], words[3]);
     let hold = words[1] == 1;
-    kept::outcome_of(curve::build::build(xs, ys, method, hold, seam, nodes, tags, slots))
+    kept::outcome_of(column::building::build_with_column(
+        xs,
+        ys,
+        method,
+        hold,
+        seam,
+        nodes,
+        tags,
+        slots,
+        column,
+    ))
 }
 
 fn built(words: &[u64; MOST], points: Points, seam: Seam) -> Kept {
@@ -31,6 +42,7 @@ fn built(words: &[u64; MOST], points: Points, seam: Seam) -> Kept {
     let mut nodes = [0.0; POINTS];
     let mut tags = [0; TAGS];
     let mut slots = [0.0; ROOM];
+    let mut column = [0.0; POINTS];
     let outcome = lent(
         words,
         points::first(&xs, points.knots),
@@ -39,6 +51,7 @@ fn built(words: &[u64; MOST], points: Points, seam: Seam) -> Kept {
         &mut nodes,
         &mut tags,
         &mut slots,
+        &mut column,
     );
     Kept {
         outcome,
@@ -48,6 +61,7 @@ fn built(words: &[u64; MOST], points: Points, seam: Seam) -> Kept {
         nodes,
         tags,
         slots,
+        column,
     }
 }
 

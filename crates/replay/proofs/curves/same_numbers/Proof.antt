@@ -1,15 +1,15 @@
--- `curves::same_nodes` is safe and ends: the place rises to the count, and there are as many nodes and words.
+-- `curves::same_numbers` is safe and ends: the place rises to the count, and there are as many numbers and words.
 use borrow.Author.Needs.{needs}
 use Prim.Native.Nat.{_≤_, _-_}
 use lib.ListN.{length}
-use Rattle.replay.proofs.curves.same_nodes.Statement.{statement}
-use Rattle.replay.proofs.curves.same_nodes.Tie as tie
+use Rattle.replay.proofs.curves.same_numbers.Statement.{statement}
+use Rattle.replay.proofs.curves.same_numbers.Tie as tie
 
 abbrev Inv-loop : tie.InvT-loop
-Inv-loop nodes words count i₀ i = (count ≤ length nodes) × (count ≤ 72)
+Inv-loop list words count i₀ i = (count ≤ length list) × (count ≤ 72)
 
 abbrev μ-loop : tie.MeasureT-loop
-μ-loop nodes words count i₀ i = count - i
+μ-loop list words count i₀ i = count - i
 
 returns : tie.Need-returns Inv-loop μ-loop
 returns c = search needs
@@ -50,8 +50,8 @@ loop-again c = search needs
 returns-4 : tie.Need-returns-4 Inv-loop μ-loop
 returns-4 c = search needs
 
-pub same-nodes-spec : {M : Type 1} → statement M
-same-nodes-spec =
+pub same-numbers-spec : {M : Type 1} → statement M
+same-numbers-spec =
     tie.close
     (tie.spec
     Inv-loop

@@ -1,0 +1,112 @@
+-- `strips::steps_agree` is safe and ends: the place rises to that of the last knot, and there is a price for each below it.
+use borrow.Author.Needs.{needs}
+use mathlib.Core.Path.{_≡_}
+use Prim.Native.Nat.{_+_, _≤_, _-_}
+use lib.ListN.{length}
+use Rattle.replay.proofs.strips.steps_agree.Statement.{statement}
+use Rattle.replay.proofs.strips.steps_agree.Tie as tie
+
+abbrev Inv-loop : tie.InvT-loop
+Inv-loop xs made tags slots column out last i₀ i = (last + 1 ≡ length xs) × (length xs ≤ length out)
+
+abbrev μ-loop : tie.MeasureT-loop
+μ-loop xs made tags slots column out last i₀ i = last - i
+
+returns : tie.Need-returns Inv-loop μ-loop
+returns c = search needs
+
+returns-2 : tie.Need-returns-2 Inv-loop μ-loop
+returns-2 c = search needs
+
+sub-last : tie.Need-sub-last Inv-loop μ-loop
+sub-last c = search needs
+
+loop-holds : tie.Need-loop-holds Inv-loop μ-loop
+loop-holds c = search needs
+
+mul-to-bits : tie.Need-mul-to-bits Inv-loop μ-loop
+mul-to-bits c = search needs
+
+shared-slice-read-to-bits : tie.Need-shared-slice-read-to-bits Inv-loop μ-loop
+shared-slice-read-to-bits c = search needs
+
+to-bits-requires : tie.Need-to-bits-requires Inv-loop μ-loop
+to-bits-requires c κs = search needs
+
+mul-strip : tie.Need-mul-strip Inv-loop μ-loop
+mul-strip c = search needs
+
+shared-slice-read-strip : tie.Need-shared-slice-read-strip Inv-loop μ-loop
+shared-slice-read-strip c = search needs
+
+add-strip : tie.Need-add-strip Inv-loop μ-loop
+add-strip c = search needs
+
+mul-strip-2 : tie.Need-mul-strip-2 Inv-loop μ-loop
+mul-strip-2 c = search needs
+
+shared-slice-read-strip-2 : tie.Need-shared-slice-read-strip-2 Inv-loop μ-loop
+shared-slice-read-strip-2 c = search needs
+
+strip-requires : tie.Need-strip-requires Inv-loop μ-loop
+strip-requires c κs = search needs
+
+same-requires : tie.Need-same-requires Inv-loop μ-loop
+same-requires c κs = search needs
+
+returns-3 : tie.Need-returns-3 Inv-loop μ-loop
+returns-3 c = search needs
+
+add-strip-between : tie.Need-add-strip-between Inv-loop μ-loop
+add-strip-between c = search needs
+
+strip-between-requires : tie.Need-strip-between-requires Inv-loop μ-loop
+strip-between-requires c κs = search needs
+
+same-requires-2 : tie.Need-same-requires-2 Inv-loop μ-loop
+same-requires-2 c κs = search needs
+
+returns-4 : tie.Need-returns-4 Inv-loop μ-loop
+returns-4 c = search needs
+
+add-i : tie.Need-add-i Inv-loop μ-loop
+add-i c = search needs
+
+loop-less : tie.Need-loop-less Inv-loop μ-loop
+loop-less c = search needs
+
+loop-again : tie.Need-loop-again Inv-loop μ-loop
+loop-again c = search needs
+
+returns-5 : tie.Need-returns-5 Inv-loop μ-loop
+returns-5 c = search needs
+
+pub steps-agree-spec : {M : Type 1} → statement M
+steps-agree-spec =
+    tie.close
+    (tie.spec
+    Inv-loop
+    μ-loop
+    returns
+    returns-2
+    sub-last
+    loop-holds
+    mul-to-bits
+    shared-slice-read-to-bits
+    to-bits-requires
+    mul-strip
+    shared-slice-read-strip
+    add-strip
+    mul-strip-2
+    shared-slice-read-strip-2
+    strip-requires
+    same-requires
+    returns-3
+    add-strip-between
+    strip-between-requires
+    same-requires-2
+    returns-4
+    add-i
+    loop-less
+    loop-again
+    returns-5)
