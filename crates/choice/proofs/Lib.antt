@@ -9,3 +9,4 @@ pub mod Totals
 pub mod Etas
 pub mod Finite
 pub mod Starts
+pub mod Parts

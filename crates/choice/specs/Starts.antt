@@ -1,6 +1,7 @@
 -- 02, K1: whether a section is split, and the total that one which is not gives back at its own left knot.
-use mathlib.Core.Bool.{Bool, false, _||_}
-use lib.Ieee.{Float}
+use mathlib.Core.Bool.{Bool, true, false, _&&_, _||_}
+use lib.Ieee.{Float, lt}
+use Rattle.numbers.specs.Words.{_⊕_, _⊖_, _⊗_, zero, one}
 use Rattle.section.specs.Combination as combination
 use Rattle.section.specs.declared.quadratic_part.QuadraticPart.{QuadraticPart}
 use Rattle.section.specs.declared.quadratic_part.QuadraticPart.the-variants as quadratic
@@ -8,6 +9,7 @@ use Rattle.section.specs.declared.convex_monotone_part.ConvexMonotonePart.{Conv
 use Rattle.section.specs.declared.convex_monotone_part.ConvexMonotonePart.the-variants as convex
 use Rattle.section.specs.declared.section.Section.{Section}
 use Rattle.section.specs.declared.section.Section.the-variants as section
+use Rattle.table.specs.declared.method.ConvexMonotone.{ConvexMonotone}
 
 -- a Min kind in it is split
 abbrev pub quadraticSplit : QuadraticPart → Bool
@@ -42,3 +44,22 @@ startOf total (section.ConvexMonotone4Min s) = total
 startOf total (section.Quadratic s) = total
 startOf total (section.QuadraticMin s) = total
 startOf total (section.Combination s) = combination.weighted s total total
+
+-- it has two parts
+abbrev pub mixedIn : Section → Bool
+mixedIn (section.EverywhereConstant s) = false
+mixedIn (section.ConstantGrad s) = false
+mixedIn (section.ConvexMonotone2 s) = false
+mixedIn (section.ConvexMonotone3 s) = false
+mixedIn (section.ConvexMonotone4 s) = false
+mixedIn (section.ConvexMonotone4Min s) = false
+mixedIn (section.Quadratic s) = false
+mixedIn (section.QuadraticMin s) = false
+mixedIn (section.Combination s) = true
+
+-- the settings make sections of two parts, and a total that they weigh against itself
+abbrev pub mixing : ConvexMonotone → Bool
+mixing method = lt zero (method .quadraticity) && lt (method .quadraticity) one
+
+abbrev pub weighed : ConvexMonotone → Float → Float
+weighed method total = method .quadraticity ⊗ total ⊕ (one ⊖ method .quadraticity) ⊗ total
