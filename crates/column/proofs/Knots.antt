@@ -49,7 +49,7 @@ not-nan (inf s) h = never h refl
 not-nan (fin s m e) h = ap not (self-equal s (m * up e * down e))
 
 module _ (x : List Float) (knots : allFinite x ≡ true) (rise : rising x ≡ true) where
-  knot-finite : (i : ℕ) → i < length x → finite (at x i) ≡ true
+  pub knot-finite : (i : ℕ) → i < length x → finite (at x i) ≡ true
   unfolding allFinite
   knot-finite i l = all-at (length x) (λ k. finite (at x k)) knots i l
 

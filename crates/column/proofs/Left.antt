@@ -28,7 +28,7 @@ use Rattle.growth.specs.declared.growth.Carried.{Carried}
 use Rattle.growth.specs.declared.growth.Carried.the-variants as carried
 use Rattle.query.specs.Many.{manyVerdict}
 use Rattle.column.specs.Column.{Columned, columnAt, columned, columnBy, withColumn}
-use Rattle.column.specs.Steps.{lastVerdict}
+use Rattle.column.specs.Steps.{lastVerdict, JustBuilt}
 use Rattle.column.proofs.Knots.{column-accepted}
 
 module _ (x : List Float) (b : Buffers) (column : List Float) where
@@ -87,3 +87,7 @@ module _ (x y : List Float) (method : ConvexMonotone) (hold : Bool) (seam : Seam
   knots-answer o c room e f l =
       subst (λ (k : Buffers). manyVerdict x c (k .tags) (k .slots) x room ≡ verdict.Accepted) (sym (left-build o c e f))
       (column-accepted x y frame method seam b c room (accepted-build o c e f) l)
+
+  pub just-built : (k : Built) (n : List Float) (t : List ℕ) (s : List Float) (c : Curve) → outcome k n t s ≡ buildOutcome x y method hold seam b → k ≡ built.Curve c →
+      JustBuilt x y method seam c t s
+  just-built k n t s c e f = record { hold = hold; lent = b; nodes = n; is = ap (λ (a : Built). outcome a n t s) (sym f) ∙ e }

@@ -1,6 +1,11 @@
+pub mod Entries
+pub mod Filled
+pub mod JustBuilt
 pub mod Knots
 pub mod Left
 pub mod Placed
 pub mod SameStrip
 pub mod Telescope
+pub mod Tests
+pub mod Told
 pub mod Unique

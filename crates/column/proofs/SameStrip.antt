@@ -15,7 +15,6 @@ use Rattle.numbers.specs.Overlay.{overlay}
 use Rattle.numbers.specs.Words.{_⊖_, _⊘_}
 use Rattle.numbers.proofs.Overlay.{overlay-inside, length-overlay}
 use Rattle.numbers.proofs.Ways.{never}
-use Rattle.section.specs.Section.{primitive}
 use Rattle.refusal.specs.Refusal.{first}
 use Rattle.refusal.specs.declared.Refusal.the-variants.{BufferTooShort, StripEndsNotRising}
 use Rattle.refusal.specs.declared.Verdict.{Verdict}
@@ -32,11 +31,9 @@ use Rattle.curve.specs.declared.curve.Built.{Built}
 use Rattle.curve.specs.declared.curve.Built.the-variants as built
 use Rattle.curve.specs.declared.curve.Curve.{Curve}
 use Rattle.curve.proofs.Accepted.{accepted-sound, accepted-room}
-use Rattle.query.specs.Query.{answerInNumbers}
 use Rattle.query.specs.Strip.{stripOf, totalTo, stripAt}
 use Rattle.query.specs.declared.answer.QueryAnswer.{QueryAnswer}
 use Rattle.query.specs.declared.answer.QueryAnswer.the-variants as query-answer
-use Rattle.query.proofs.ReadBack.{answering, asked-of-built}
 use Rattle.query.proofs.Whole as whole
 use Rattle.column.specs.Between.{betweenTests, betweenBy}
 use Rattle.growth.specs.Growth.{holds, carriedAt, grown}
@@ -44,7 +41,9 @@ use Rattle.growth.specs.declared.growth.Carried.{Carried}
 use Rattle.growth.specs.declared.growth.Carried.the-variants as carried
 use Rattle.column.specs.Column.{Columned, columnAt, columned, columnBy, withColumn}
 use Rattle.column.specs.SameStrip.{SameStrip}
-use Rattle.column.proofs.Knots.{knot-number, knot-inside, knot-rise}
+use Rattle.column.proofs.Entries as entries
+use Rattle.column.proofs.JustBuilt.{curveIn}
+use Rattle.column.proofs.Knots.{knot-rise}
 use Rattle.column.proofs.Left.{accepted-build}
 use Rattle.column.proofs.building.build_with_column.Reads as build-with-column
 use Rattle.column.proofs.building.grow_with_column.Reads as grow-with-column
@@ -52,10 +51,6 @@ use Rattle.column.proofs.building.grow_with_column.Reads as grow-with-c
 isCurve : Built → Bool
 isCurve (built.Curve c) = true
 isCurve (built.Refused r) = false
-
-curveIn : Curve → Built → Curve
-curveIn d (built.Curve c) = c
-curveIn d (built.Refused r) = d
 
 module _ (x : List Float) (b : Buffers) (column : List Float) where
   by-room : (k : Built) (new : Buffers) (c : Curve) (short : Bool) → ltb (length column) (length x) ≡ short → columnBy x b column k new .answer ≡ built.Curve c →
@@ -82,14 +77,12 @@ module _ (x y : List Float) (method : ConvexMonotone) (hold : Bool) (seam : Seam
   spare : Room (length x) (length (b .nodes)) (length (b .tags)) (length (b .slots))
   spare = accepted-room x y method seam (length (b .nodes)) (length (b .tags)) (length (b .slots)) accepted
 
-  -- the total up to knot k: of the section that answers there
+  -- the total up to knot k, and that a query asks it
   abbrev total : ℕ → Float
-  total k = primitive (answering x y (wholeFrame (length x) method hold seam) c (at x k)) (at x k)
+  total k = entries.total x y method hold seam b accepted k
 
   asked-at : (k : ℕ) (allow : Bool) → k < length x → totalTo x (withExtrapolation c allow) (left .tags) (left .slots) (at x k) ≡ query-answer.Number (total k)
-  asked-at k allow l =
-      asked-of-built x y (wholeFrame (length x) method hold seam) method seam b (withExtrapolation c allow) (at x k) accepted
-      (knot-number x (sound .knots) (sound .rise) k l) (knot-inside x (sound .knots) (sound .rise) (withExtrapolation c allow) k l) (λ s. primitive s (at x k))
+  asked-at = entries.asked-at x y method hold seam b accepted
 
   module _ (column : List Float) (room : length x ≤ length column) where
     abbrev filled : List Float
@@ -98,7 +91,7 @@ module _ (x y : List Float) (method : ConvexMonotone) (hold : Bool) (seam : Seam
     entry : (k : ℕ) → k < length x → at filled k ≡ total k
     entry k l =
         ap (at filled) (sym (zero-add k)) ∙ overlay-inside 0 (length x) (columnAt x c (left .tags) (left .slots)) column k nan l (omega (arith, room))
-        ∙ ap (λ (a : QueryAnswer). answerInNumbers a .answer) (asked-at k false l)
+        ∙ entries.entry-is x y method hold seam b accepted k l
 
     fair : (i j : ℕ) → i < j → j < length x → first (betweenTests x (length filled) i j) ≡ verdict.Accepted
     fair i j h l =

@@ -1,26 +1,20 @@
 // A curve that is built or grown together with its column.
+use crate::filling::fill;
 use curve::build::build;
 use curve::build::build_verdict;
 use curve::curve::Built;
-use curve::curve::Curve;
 use growth::growth::Carried;
 use growth::growth::Previous;
 use growth::growth::carry;
-use query::many::primitives;
 use refusal::Refusal;
 use refusal::Verdict;
 use table::ends::Seam;
 use table::method::ConvexMonotone;
 ghost use mathlib.Core.Path.{_≡_};
-ghost use Prim.Native.Nat.{_≤_};
-ghost use lib.ListN.{length};
-ghost use Rattle.numbers.specs.Overlay.{overlay};
 ghost use Rattle.table.specs.Buffers.{buffers};
 ghost use Rattle.curve.specs.Build.{buildOutcome};
 ghost use Rattle.growth.specs.Growth.{growOutcome};
-ghost use Rattle.refusal.specs.declared.Verdict.the-variants.{Accepted};
-ghost use Rattle.query.specs.Many.{manyVerdict};
-ghost use Rattle.column.specs.Column.{columnAt, columned, withColumn};
+ghost use Rattle.column.specs.Column.{columned, withColumn};
 ghost use Rattle.column.specs.Steps.{lastVerdict};
 
 // What a check of the table says where its column is too short: its own refusal, and else that one, which comes last.
@@ -31,14 +25,6 @@ fn last_verdict(verdict: Verdict) -> Built
         Verdict::Refused(refusal) => Built::Refused(refusal),
         Verdict::Accepted => Built::Refused(Refusal::BufferTooShort),
     }
-}
-
-// Writes the column of a curve that answers at its knots.
-fn fill(xs: &[f64], curve: Curve, tags: &[u16], slots: &[f64], column: &mut [f64])
-    requires { ⌜ manyVerdict (now xs) curve (now tags) (now slots) (now xs) (length (now column)) ≡ Accepted ⌝ }
-    ensures { λ _. ⌜ now (column .exit) ≡ overlay 0 (length (now (xs .entry))) (columnAt (now (xs .entry)) curve (now (tags .entry)) (now (slots .entry))) (now (column .entry)) ⌝ }
-{
-    let _ = primitives(xs, curve, tags, slots, xs, column);
 }
 
 // The curve of a table as `build` makes it, and the total up to each knot in the first entries of `column`. A column shorter than the knots is refused
@@ -71,7 +57,7 @@ pub fn build_with_column(
     match built {
         Built::Refused(_) => built,
         Built::Curve(curve) => {
-            fill(xs, curve, tags, slots, column);
+            fill(xs, ys, method, seam, curve, tags, slots, column);
             built
         }
     }

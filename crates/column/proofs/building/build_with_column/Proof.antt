@@ -5,7 +5,7 @@ use borrow.Author.Tests.{lt-ltb}
 use Rattle.table.specs.Buffers.{buffers}
 use Rattle.curve.specs.declared.curve.Built.{Built}
 use Rattle.column.specs.Column.{columned}
-use Rattle.column.proofs.Left.{not-built, built-with, short-column, knots-answer}
+use Rattle.column.proofs.Left.{not-built, built-with, short-column, just-built}
 use Rattle.column.proofs.building.build_with_column.Statement.{statement}
 use Rattle.column.proofs.building.build_with_column.Tie as tie
 
@@ -19,8 +19,10 @@ returns c =
 fill-requires : tie.Need-fill-requires
 fill-requires c κs =
     let a = c .before .before .before .before .before .before .before .before .before .before .before .before .before .before .before .before .before .before .before .before .before .before .before .args in
-    let lent = buffers (a .nodes .now) (a .tags .now) (a .slots .now) in
-    knots-answer (a .xs .now) (a .ys .now) (a .method) (a .hold) (a .seam) lent _ _ _ (c .before .before .before .before .before .before .before .before .before .before .before .before .build .ensures) (c .before .before .before .before .built .given .1) (c .before .before .before .before .before .before .before .before .before .before .before .before .before .before .before .before .if1 .left)
+    let lent = buffers (a .nodes .now) (a .tags .now) (a .slots .now) in (
+      c .before .before .before .before .before .before .before .before .before .before .before .before .before .before .before .before .if1 .left,
+      just-built (a .xs .now) (a .ys .now) (a .method) (a .hold) (a .seam) lent _ _ _ _ _ (c .before .before .before .before .before .before .before .before .before .before .before .before .build .ensures) (c .before .before .before .before .built .given .1),
+    )
 
 returns-2 : tie.Need-returns-2
 returns-2 c =
