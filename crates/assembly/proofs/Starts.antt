@@ -1,8 +1,9 @@
--- 02, K1: at its own left knot each section of a table of ordinary size that is not split gives back the total before it. In every mode, with a seam or none, held or not.
+-- 02, K1: at its own left knot each section of a table of ordinary size that is not split, or split in the usual way, gives back the total before it.
+-- In every mode, with a seam or none, held or not. Where a total is finite, so are those before it.
 use Prim.Native.Nat as nat
 use Prim.Native.Nat.{ℕ, suc, _+_, _-_, _≤_, _<_}
 use native.Mathlib.Omega.{arith}
-use native.Mathlib.Nat.{eq-or-lt-of-le}
+use native.Mathlib.Nat.{add-zero, eq-or-lt-of-le}
 use native.Mathlib.Numerals.{add-one}
 use mathlib.Core.Bool.{true, false, _&&_}
 use mathlib.Core.List.{List}
@@ -14,7 +15,7 @@ use lib.Dec.{eqb, lit≤}
 use lib.Ieee.{Float, binary64, lt, le, neg, ofBits}
 use lib.Ieee.Fits.{sub-fits, mul-fits}
 use lib.ListN.{length}
-use Rattle.numbers.specs.Words.{_⊖_, zero}
+use Rattle.numbers.specs.Words.{_⊖_, zero, finite}
 use Rattle.numbers.proofs.Every.{all-at, and-split}
 use Rattle.numbers.proofs.Ways.{never, of-both, of-each}
 use Rattle.numbers.proofs.AtMost.{le-on, le-of-below}
@@ -22,6 +23,7 @@ use Rattle.numbers.proofs.Bounds.{Within, within-finite, wider, sum-within, dif
 use Rattle.numbers.proofs.Low.{low-up}
 use Rattle.numbers.proofs.Ratios.{zero-within}
 use Rattle.numbers.proofs.Sided.{sided-within}
+use Rattle.numbers.proofs.Sums.{sum-finite-left}
 use Rattle.numbers.proofs.Totals.{Total, zero-total, total-more}
 use Rattle.section.specs.Section as section
 use Rattle.table.specs.Check.{rising}
@@ -34,7 +36,7 @@ use Rattle.table.specs.declared.ends.Seam.the-variants as seam
 use Rattle.choice.proofs.Finite.{average-within, shortest-low}
 use Rattle.choice.proofs.Starts.{Modest, Gives, constant-gives, section-gives}
 use Rattle.assembly.specs.Sections.{periodAt, sectionAt}
-use Rattle.assembly.specs.Starts.{splitIn, startOf, farthestKnot, shortest, highest, almostOne, knotsModest, methodModest, priceModest, seamModest, periodModest, modest, HeldOrFree}
+use Rattle.assembly.specs.Starts.{unusualIn, startOf, farthestKnot, shortest, highest, almostOne, knotsModest, methodModest, priceModest, seamModest, periodModest, modest, HeldOrFree}
 use Rattle.assembly.proofs.Finite.{Length, shares, outer-within, inside}
 
 farthest-within : Within 398 farthestKnot
@@ -48,7 +50,20 @@ seamed-within : (s : Seam) (i : ℕ) (f : Float) → seamModest s ≡ true → W
 seamed-within seam.Absent i f h w = w
 seamed-within (seam.At count g) i f h w = of-both (Within 151) (eqb i count) g f (wider (price-within g h) tt) w
 
--- what the one test says
+-- ---- the totals: those that start from +0.0, and where one is finite, so are those before it
+pub total-kept : (x y : List Float) (frame : Frame) → frame .start ≡ zero → (i : ℕ) → Total (totalAt x y frame i)
+unfolding totalAt
+total-kept x y frame start nat.zero = rw start zero-total
+total-kept x y frame start (suc i) = total-more _ (total-kept x y frame start i) (mul-fits binary64 (at y (i + 1)) (at x (i + 1) ⊖ at x i))
+
+pub totals-finite : (x y : List Float) (frame : Frame) (i k : ℕ) → finite (totalAt x y frame (i + k)) ≡ true → finite (totalAt x y frame i) ≡ true
+unfolding totalAt
+totals-finite x y frame i nat.zero h = rw (add-zero i) at h
+totals-finite x y frame i (suc k) h =
+    let e : i + suc k ≡ suc (i + k) = omega arith in
+    totals-finite x y frame i k (sum-finite-left (totalAt x y frame (i + k)) _ (rw e at h))
+
+-- ---- what the one test says
 record Parts (x y : List Float) (frame : Frame) : Type 0 where
   first : le (neg farthestKnot) (at x 0) ≡ true
   last : le (at x (length x - 1)) farthestKnot ≡ true
@@ -143,36 +158,32 @@ module _ (x y : List Float) (frame : Frame) (rise : rising x ≡ true) (given : 
         of-each (Within 152) (eqb i 0) _ _ (λ h. first-within)
         (λ h. of-each (Within 152) (eqb i (length x - 1)) _ _ (λ k. last-within) (λ k. let r = inside i (length x) l h k in wider (middle-within i (r .0) (r .1)) tt))
 
-  module _ (start : frame .start ≡ zero) where
-    -- ---- the totals, which start from +0.0
-    total-kept : (i : ℕ) → Total (totalAt x y frame i)
-    unfolding totalAt
-    total-kept nat.zero = rw start zero-total
-    total-kept (suc i) = total-more _ (total-kept i) (mul-fits binary64 (at y (i + 1)) (at x (i + 1) ⊖ at x i))
+  module _ (start : frame .start ≡ zero) (ok : HeldOrFree x frame) (i : ℕ) (l : i < length x - 1) where
+    before : Total (totalAt x y frame i)
+    before = total-kept x y frame start i
 
-    module _ (ok : HeldOrFree x frame) (i : ℕ) (l : i < length x - 1) where
-      period-modest : frame .left ≡ end.Free → frame .right ≡ end.Free → Modest (periodAt x y frame i)
-      period-modest left right = record {
-        left = within-finite (knot-within i (omega arith));
-        length = length-of i l .within;
-        long = length-of i l .low;
-        prev = node-within left right (omega arith) i (omega arith);
-        next = node-within left right (omega arith) (i + 1) (omega arith);
-        average = read-within i l;
-        total = total-kept i;
-      }
+    period-modest : frame .left ≡ end.Free → frame .right ≡ end.Free → Modest (periodAt x y frame i)
+    period-modest left right = record {
+      left = within-finite (knot-within i (omega arith));
+      length = length-of i l .within;
+      long = length-of i l .low;
+      prev = node-within left right (omega arith) i (omega arith);
+      next = node-within left right (omega arith) (i + 1) (omega arith);
+      average = read-within i l;
+      total = before;
+    }
 
-      section-starts : Gives (totalAt x y frame i) (at x i) (sectionAt x y frame i)
-      unfolding sectionAt
-      section-starts =
-          of-each (Gives (totalAt x y frame i) (at x i)) (frame .hold && eqb i (length x - 2)) _ _
-          (λ h. constant-gives (at y (i + 1)) (totalAt x y frame i) (at x i) (read-within i l) (total-kept i) (within-finite (knot-within i (omega arith))))
-          (λ h.
-          ⊎-elim
-          (λ two. never (rw (two .1, eq-eqb i (length x - 2) (omega (arith, two .0))) refl) h)
-          (λ free. section-gives (frame .method) (periodAt x y frame i) (given .from-zero) (given .below-one) (period-modest (free .0) (free .1)))
-          ok)
+    section-starts : Gives (totalAt x y frame i) (at x i) (sectionAt x y frame i)
+    unfolding sectionAt
+    section-starts =
+        of-each (Gives (totalAt x y frame i) (at x i)) (frame .hold && eqb i (length x - 2)) _ _
+        (λ h. constant-gives (at y (i + 1)) (totalAt x y frame i) (at x i) (read-within i l) before (within-finite (knot-within i (omega arith))))
+        (λ h.
+        ⊎-elim
+        (λ two. never (rw (two .1, eq-eqb i (length x - 2) (omega (arith, two .0))) refl) h)
+        (λ free. section-gives (frame .method) (periodAt x y frame i) (given .from-zero) (given .below-one) (period-modest (free .0) (free .1)))
+        ok)
 
-pub unsplit-starts : (x y : List Float) (frame : Frame) → rising x ≡ true → frame .start ≡ zero → HeldOrFree x frame → modest x y frame ≡ true → (i : ℕ) → i < length x - 1 →
-    splitIn (sectionAt x y frame i) ≡ false → section.primitive (sectionAt x y frame i) (at x i) ≡ startOf (totalAt x y frame i) (sectionAt x y frame i)
-unsplit-starts x y frame rise start ok test i l = section-starts x y frame rise (parts x y frame test) start ok i l
+pub usual-starts : (x y : List Float) (frame : Frame) → rising x ≡ true → frame .start ≡ zero → HeldOrFree x frame → modest x y frame ≡ true → (i : ℕ) → i < length x - 1 →
+    unusualIn (at x i) (sectionAt x y frame i) ≡ false → section.primitive (sectionAt x y frame i) (at x i) ≡ startOf (totalAt x y frame i) (sectionAt x y frame i)
+usual-starts x y frame rise start ok test i l = section-starts x y frame rise (parts x y frame test) start ok i l

@@ -1,4 +1,4 @@
--- 02, K1: the tables of ordinary size, of which it is known what each section that is not split gives back at its own left knot.
+-- 02, K1: the tables of ordinary size, of which it is known what each section that is not split, or split in the usual way, gives back at its own left knot.
 use Prim.Native.Nat.{ℕ, _+_, _-_}
 use mathlib.Core.Bool.{Bool, true, _&&_}
 use mathlib.Core.List.{List}
@@ -14,7 +14,7 @@ use Rattle.table.specs.declared.ends.Frame.{Frame}
 use Rattle.table.specs.declared.ends.Seam.{Seam}
 use Rattle.table.specs.declared.ends.Seam.the-variants as seam
 use Rattle.table.specs.declared.method.ConvexMonotone.{ConvexMonotone}
-pub use Rattle.choice.specs.Starts.{splitIn, startOf}
+pub use Rattle.choice.specs.Starts.{splitIn, unusualIn, startOf}
 
 -- 2 ^ 398
 abbrev pub farthestKnot : Float

@@ -1,10 +1,10 @@
 -- Of which parts a chosen section is made: two only where the quadraticity lies strictly between 0 and 1, which is then the weight, and none that is split
--- unless positivity is asked for.
+-- unless positivity is asked for. What is not split is not split in an unusual way.
 use mathlib.Core.Bool.{Bool, true, false, cond, _&&_, _||_}
 use mathlib.Core.Path.{_≡_, refl, sym, ap, _∙_}
 use lib.Ieee.{Float, lt}
 use Rattle.numbers.specs.Words.{_⊕_, _⊖_, _⊗_, _⊘_, zero, one, two, three}
-use Rattle.numbers.proofs.Ways.{of-both, of-each}
+use Rattle.numbers.proofs.Ways.{of-both, of-each, or-none}
 use Rattle.section.specs.ConvexMonotonePart as convex-part
 use Rattle.section.specs.QuadraticPart as quadratic-part
 use Rattle.section.specs.declared.convex_monotone_part.ConvexMonotonePart.{ConvexMonotonePart}
@@ -18,7 +18,7 @@ use Rattle.choice.specs.Choice.{atZero, sectionOf, bySteps, shaped, mixe
 use Rattle.choice.specs.ConvexPart.{b2, b3, fourth, second, third, convexPart}
 use Rattle.choice.specs.QuadraticPart.{made, minKind, quadraticPart}
 use Rattle.choice.specs.Regions.{flat, inFirst, inSecond, inThird}
-use Rattle.choice.specs.Starts.{mixedIn, mixing, weighed, quadraticSplit, convexSplit, splitIn, startOf}
+use Rattle.choice.specs.Starts.{mixedIn, mixing, weighed, quadraticSplit, convexSplit, splitIn, quadraticUnusual, convexUnusual, unusualIn, startOf}
 use Rattle.choice.specs.declared.period.Period.{Period}
 
 -- ---- two parts
@@ -111,3 +111,27 @@ module _ (method : ConvexMonotone) (free : method .«force_positive» ≡ false)
   section-whole =
       let Whole : Section → Type 0 = λ s. splitIn s ≡ false in
       of-both Whole (atZero method period) _ _ refl (of-both Whole (flat _ _) _ _ refl (shaped-whole _ _))
+
+-- ---- and so none that is split in an unusual way
+quadratic-usual : (x : Float) (p : QuadraticPart) → quadraticSplit p ≡ false → quadraticUnusual x p ≡ false
+quadratic-usual x (quadratic.Quadratic s) h = h
+quadratic-usual x (quadratic.QuadraticMin s) h = rw h
+
+convex-usual : (x : Float) (c : ConvexMonotonePart) → convexSplit c ≡ false → convexUnusual x c ≡ false
+convex-usual x (convex.ConvexMonotone2 s) h = h
+convex-usual x (convex.ConvexMonotone3 s) h = h
+convex-usual x (convex.ConvexMonotone4 s) h = h
+convex-usual x (convex.ConvexMonotone4Min s) h = rw h
+
+pub whole-usual : (x : Float) (s : Section) → splitIn s ≡ false → unusualIn x s ≡ false
+whole-usual x (section.EverywhereConstant s) h = h
+whole-usual x (section.ConstantGrad s) h = h
+whole-usual x (section.ConvexMonotone2 s) h = h
+whole-usual x (section.ConvexMonotone3 s) h = h
+whole-usual x (section.ConvexMonotone4 s) h = h
+whole-usual x (section.ConvexMonotone4Min s) h = rw h
+whole-usual x (section.Quadratic s) h = h
+whole-usual x (section.QuadraticMin s) h = rw h
+whole-usual x (section.Combination s) h =
+    let n = or-none (quadraticSplit (s .«quadratic_helper»)) (convexSplit (s .«conv_mono_helper»)) h in
+    neither (quadratic-usual x (s .«quadratic_helper») (n .0)) (convex-usual x (s .«conv_mono_helper») (n .1))

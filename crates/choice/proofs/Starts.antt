@@ -1,4 +1,4 @@
--- 02, K1: at its own left knot a section that is not split gives back the total that it was handed, in every mode, for a period of ordinary size.
+-- 02, K1: at its own left knot a section that is not split, or split in the usual way, gives back the total that it was handed, in every mode, for a period of ordinary size.
 use Prim.Native.Nat.{ℕ}
 use mathlib.Core.Bool.{Bool, true, false}
 use mathlib.Core.Path.{_≡_}
@@ -10,6 +10,7 @@ use Rattle.numbers.proofs.Bounds.{Within, Low, sum-within, difference-within, p
 use Rattle.numbers.proofs.Ratios.{zero-within, half-within, self-less}
 use Rattle.numbers.proofs.Zeros.{Zero, zero-zero, zero-small, zero-product, quotient-zero}
 use Rattle.numbers.proofs.Totals.{Total, AtLeft, total-stays}
+use Rattle.quadratic.specs.QuadraticMin as quadmin
 use Rattle.convex.proofs.Finite.{Inner}
 use Rattle.convex.proofs.Starts as convex-starts
 use Rattle.quadratic.proofs.Starts as quadratic-starts
@@ -34,7 +35,7 @@ use Rattle.choice.specs.Regions.{flat, inFirst, inSecond, inThird}
 use Rattle.choice.specs.QuadraticPart.{minOf, made, minKind, quadraticPart}
 use Rattle.choice.specs.ConvexPart.{fourth, fourthMin, second, third, clamped, convexPart, b2, b3}
 use Rattle.choice.specs.Choice.{firstRegion, mixed, shaped, bySteps, sectionOf, atZero}
-use Rattle.choice.specs.Starts.{quadraticSplit, convexSplit, splitIn, startOf}
+use Rattle.choice.specs.Starts.{quadraticUnusual, convexUnusual, unusualIn, startOf}
 use Rattle.choice.proofs.Etas.{almostOne, cut-inner, b2-inner, b3-inner, second-unit, third-eta, fourth-number}
 
 -- a period of ordinary size: prices of either sign, and a total that may be anything but -0.0
@@ -50,13 +51,13 @@ pub record Modest (period : Period) : Type 0 where
 -- what is said of a part and of a section, at the knot x with the total before it
 module _ (total x : Float) where
   abbrev QuadraticGives : QuadraticPart → Type 0
-  QuadraticGives k = quadraticSplit k ≡ false → part.primitive k x ≡ total
+  QuadraticGives k = quadraticUnusual x k ≡ false → part.primitive k x ≡ total
 
   abbrev ConvexGives : ConvexMonotonePart → Type 0
-  ConvexGives k = convexSplit k ≡ false → convex.primitive k x ≡ total
+  ConvexGives k = convexUnusual x k ≡ false → convex.primitive k x ≡ total
 
   abbrev pub Gives : Section → Type 0
-  Gives s = splitIn s ≡ false → section-spec.primitive s x ≡ startOf total s
+  Gives s = unusualIn x s ≡ false → section-spec.primitive s x ≡ startOf total s
 
   quadratic-alone : (k : QuadraticPart) → QuadraticGives k → Gives (part.alone k)
   unfolding section-spec.primitive part.primitive
@@ -72,7 +73,7 @@ module _ (total x : Float) where
 
   both-parts : (p : QuadraticPart) (c : ConvexMonotonePart) (weight : Float) → QuadraticGives p → ConvexGives c → Gives (section.Combination (combination.new p c weight))
   unfolding section-spec.primitive
-  both-parts p c weight f g h = let n = or-none (quadraticSplit p) (convexSplit c) h in rw (f (n .0), g (n .1))
+  both-parts p c weight f g h = let n = or-none (quadraticUnusual x p) (convexUnusual x c) h in rw (f (n .0), g (n .1))
 
 -- a constant section, at its own knot
 pub constant-gives : {k : ℕ} (value total x : Float) → Within k value → Total total → finite x ≡ true → Gives total x (section.EverywhereConstant (constant.new value total x))
@@ -112,7 +113,7 @@ module _ (method : ConvexMonotone) (period : Period) (from-zero : le zero (metho
       let rest = sum-within (given .prev) (product-within (product-within half-within (zero-small nowhere) tt) slope tt) tt in
       total-stays (given .total) (zero-product nowhere rest)
 
-  min-gives : (mode : Split) → minOf period mode .«split_region» ≡ false → part.primitive (part-kind.QuadraticMin (minOf period mode)) «x_prev» ≡ «prev_primitive»
+  min-gives : (mode : Split) → quadmin.unusual (minOf period mode) «x_prev» ≡ false → part.primitive (part-kind.QuadraticMin (minOf period mode)) «x_prev» ≡ «prev_primitive»
   unfolding part.primitive
   min-gives split.Original = quadratic-starts.new-starts (given .average) here (given .prev) (given .next)
   min-gives split.Careful = quadratic-starts.careful-starts (given .average) here (given .prev) (given .next)

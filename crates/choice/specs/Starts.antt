@@ -1,7 +1,9 @@
--- 02, K1: whether a section is split, and the total that one which is not gives back at its own left knot.
+-- 02, K1: whether a section is split, and whether unusually; and the total that any other gives back at its own left knot.
 use mathlib.Core.Bool.{Bool, true, false, _&&_, _||_}
 use lib.Ieee.{Float, lt}
 use Rattle.numbers.specs.Words.{_⊕_, _⊖_, _⊗_, zero, one}
+use Rattle.quadratic.specs.QuadraticMin as quadmin
+use Rattle.convex.specs.ConvexMonotone4Min as cm4min
 use Rattle.section.specs.Combination as combination
 use Rattle.section.specs.declared.quadratic_part.QuadraticPart.{QuadraticPart}
 use Rattle.section.specs.declared.quadratic_part.QuadraticPart.the-variants as quadratic
@@ -32,6 +34,28 @@ splitIn (section.ConvexMonotone4Min s) = s .«split_region»
 splitIn (section.Quadratic s) = false
 splitIn (section.QuadraticMin s) = s .«split_region»
 splitIn (section.Combination s) = quadraticSplit (s .«quadratic_helper») || convexSplit (s .«conv_mono_helper»)
+
+-- a Min kind in it is split, but not in the usual way at x
+abbrev pub quadraticUnusual : Float → QuadraticPart → Bool
+quadraticUnusual x (quadratic.Quadratic s) = false
+quadraticUnusual x (quadratic.QuadraticMin s) = quadmin.unusual s x
+
+abbrev pub convexUnusual : Float → ConvexMonotonePart → Bool
+convexUnusual x (convex.ConvexMonotone2 s) = false
+convexUnusual x (convex.ConvexMonotone3 s) = false
+convexUnusual x (convex.ConvexMonotone4 s) = false
+convexUnusual x (convex.ConvexMonotone4Min s) = cm4min.unusual s x
+
+abbrev pub unusualIn : Float → Section → Bool
+unusualIn x (section.EverywhereConstant s) = false
+unusualIn x (section.ConstantGrad s) = false
+unusualIn x (section.ConvexMonotone2 s) = false
+unusualIn x (section.ConvexMonotone3 s) = false
+unusualIn x (section.ConvexMonotone4 s) = false
+unusualIn x (section.ConvexMonotone4Min s) = cm4min.unusual s x
+unusualIn x (section.Quadratic s) = false
+unusualIn x (section.QuadraticMin s) = quadmin.unusual s x
+unusualIn x (section.Combination s) = quadraticUnusual x (s .«quadratic_helper») || convexUnusual x (s .«conv_mono_helper»)
 
 -- the total that it was handed; a combination weighs it against itself, and that rounds
 abbrev pub startOf : Float → Section → Float

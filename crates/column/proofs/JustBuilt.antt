@@ -22,9 +22,11 @@ use Rattle.curve.proofs.Accepted.{accepted-sound, accepted-room}
 use Rattle.query.specs.Many.{manyVerdict}
 use Rattle.query.specs.Query.{tailSection}
 use Rattle.query.proofs.Whole as whole
+use Rattle.numbers.specs.Words.{finite}
+use Rattle.numbers.proofs.Every.{and-split}
 use Rattle.numbers.proofs.Overlay.{length-overlay}
 use Rattle.column.specs.Column.{columnAt}
-use Rattle.column.specs.Steps.{modestTable, JustBuilt, entryAt}
+use Rattle.column.specs.Steps.{modestTable, wholeTotal, readable, JustBuilt, entryAt}
 use Rattle.column.proofs.Entries.{last-entry, section-entry}
 use Rattle.column.proofs.Left.{accepted-build, knots-answer}
 
@@ -60,12 +62,14 @@ module _ {x y : List Float} {method : ConvexMonotone} {seam : Seam} {curve : Cur
   answers n l = knots-answer x y method (j .hold) seam (j .lent) o curve n (j .is) refl l
 
   -- ---- by the records of its sections
-  pub entries : modestTable x y method seam ≡ true → (i : ℕ) → i < length x - 1 → entryAt method x tags slots i ≡ columnAt x curve tags slots i
+  pub entries : readable x y method seam slots ≡ true → (i : ℕ) → i < length x - 1 → entryAt method x tags slots i ≡ columnAt x curve tags slots i
   unfolding curveIn
   entries test i l =
+      let both = and-split (modestTable x y method seam) (finite (wholeTotal x slots)) test in
+      let counted = subst (λ (p : Outcome Built). finite (wholeTotal x (p .buffers .slots)) ≡ true) all (both .1) in
       subst
       (λ (p : Outcome Built). entryAt method x (p .buffers .tags) (p .buffers .slots) i ≡ columnAt x (curveIn curve (p .answer)) (p .buffers .tags) (p .buffers .slots) i) (sym all)
-      (section-entry x y method (j .hold) seam (j .lent) accepted test i l)
+      (section-entry x y method (j .hold) seam (j .lent) accepted (both .0) counted i l)
 
   -- ---- and at the last by its tail
   pub last : (k : ℕ) → k + 1 ≡ length x → constant.primitive (constant.new (curve .tail .value) (curve .tail .total) (curve .tail .from)) (at x k) ≡ columnAt x curve tags slots k

@@ -3,6 +3,7 @@ pub mod Filled
 pub mod JustBuilt
 pub mod Knots
 pub mod Left
+pub mod Listed
 pub mod Placed
 pub mod SameStrip
 pub mod Telescope

@@ -1,19 +1,20 @@
 -- Steps of the code, which only the contracts of private functions cite.
 use Prim.Native.Nat as nat
-use Prim.Native.Nat.{ℕ, suc, _+_, _-_, _*_}
-use mathlib.Core.Bool.{Bool, cond, _&&_}
+use Prim.Native.Nat.{ℕ, suc, _+_, _-_, _*_, _≤_, _<_}
+use mathlib.Core.Bool.{Bool, true, false, cond, _&&_}
 use mathlib.Core.List.{List}
 use mathlib.Core.Path.{_≡_}
 use lib.Ieee.{Float}
-use lib.ListN.{length, getD}
+use lib.ListN.{length, getD, take, drop}
 use Rattle.numbers.specs.Every.{allBelow}
 use Rattle.numbers.specs.Sizes.{slotCount}
-use Rattle.numbers.specs.Words.{zero}
+use Rattle.numbers.specs.Words.{_⊕_, _⊖_, _⊗_, zero, one, finite}
 use Rattle.section.specs.Section.{primitive}
 use Rattle.record.specs.Knots.{totalAfter}
 use Rattle.record.specs.Number.{answerIn, orZero}
 use Rattle.record.specs.Reading.{recordAt}
-use Rattle.record.specs.Tag.{splitTag, mixedTag}
+use Rattle.record.specs.Tag.{splitTag}
+use Rattle.record.specs.Unusual.{unusualSplit}
 use Rattle.refusal.specs.declared.Refusal.the-variants.{BufferTooShort}
 use Rattle.refusal.specs.declared.Verdict.{Verdict}
 use Rattle.refusal.specs.declared.Verdict.the-variants as verdict
@@ -21,7 +22,7 @@ use Rattle.table.specs.Buffers.{Buffers, outcome}
 use Rattle.table.specs.Table.{at}
 use Rattle.table.specs.declared.ends.Seam.{Seam}
 use Rattle.table.specs.declared.method.ConvexMonotone.{ConvexMonotone}
-use Rattle.choice.specs.Starts.{mixing, weighed}
+use Rattle.choice.specs.Starts.{mixing}
 use Rattle.assembly.specs.Starts.{knotsModest, methodModest, seamModest, periodModest}
 use Rattle.curve.specs.Build.{buildOutcome}
 use Rattle.curve.specs.declared.curve.Built.{Built}
@@ -49,18 +50,65 @@ abbrev pub totalBefore : List Float → ℕ → Float
 totalBefore slots nat.zero = zero
 totalBefore slots (suc i) = at slots (slotCount * i + totalAfter)
 
--- what section i starts from, where it is not split
-abbrev pub startAt : ConvexMonotone → List ℕ → List Float → ℕ → Float
-startAt method tags slots i = cond (mixing method && mixedTag (getD tags i 0)) (weighed method (totalBefore slots i)) (totalBefore slots i)
+-- the total after the last period, in the last record
+abbrev pub wholeTotal : List Float → List Float → Float
+wholeTotal x slots = at slots (slotCount * (length x - 2) + totalAfter)
+
+-- the entries can be read off the records
+abbrev pub readable : List Float → List Float → ConvexMonotone → Seam → List Float → Bool
+readable x y method seam slots = modestTable x y method seam && finite (wholeTotal x slots)
+
+-- a total weighed against itself
+abbrev pub weighedBy : Float → Float → Float
+weighedBy weight total = weight ⊗ total ⊕ (one ⊖ weight) ⊗ total
+
+-- what section i starts from, where it has no unusual split: the total before it, by the weight of its record where the settings make sections of two parts
+abbrev pub startBy : Bool → List Float → ℕ → Float
+startBy mixed slots i = cond mixed (weighedBy (at slots (slotCount * i)) (totalBefore slots i)) (totalBefore slots i)
+
+abbrev pub startAt : ConvexMonotone → List Float → ℕ → Float
+startAt method slots i = startBy (mixing method) slots i
 
 -- what the record of section i answers at its own left knot
 abbrev pub numberAt : List Float → List ℕ → List Float → ℕ → Float
 numberAt x tags slots i = orZero (answerIn (λ s. primitive s (at x i)) (recordAt tags slots i))
 
--- where section i is split that number, else what stands there
-abbrev pub splitAt : List Float → List ℕ → List Float → List Float → ℕ → Float
-splitAt x tags slots column i = cond (splitTag (getD tags i 0)) (numberAt x tags slots i) (at column i)
+-- whether section i is asked: by its record, at its own left knot
+abbrev pub asksAt : List Float → List ℕ → List Float → ℕ → Bool
+asksAt x tags slots i = unusualSplit (getD tags i 0) (take slotCount (drop (slotCount * i) slots)) (at x i)
+
+-- where it is, its record's number, else what stands there
+abbrev pub askedAt : List Float → List ℕ → List Float → List Float → ℕ → Float
+askedAt x tags slots column i = cond (asksAt x tags slots i) (numberAt x tags slots i) (at column i)
 
 -- both: the entry of section i
 abbrev pub entryAt : ConvexMonotone → List Float → List ℕ → List Float → ℕ → Float
-entryAt method x tags slots i = cond (method .«force_positive» && splitTag (getD tags i 0)) (numberAt x tags slots i) (startAt method tags slots i)
+entryAt method x tags slots i = cond (method .«force_positive» && asksAt x tags slots i) (numberAt x tags slots i) (startAt method slots i)
+
+-- ---- a list of sections
+-- where section i stands in it
+pub record Place (places : List ℕ) (count i : ℕ) : Type 0 where
+  pub place : ℕ
+  pub low : place < count
+  pub is : getD places place 0 ≡ i
+
+-- it has each split one of the sections from `from` to `to`, and no section that is not one of these
+pub record Listed (tags : List ℕ) (from to : ℕ) (places : List ℕ) (count : ℕ) : Type 0 where
+  pub few : count ≤ to - from
+  pub inside : (k : ℕ) → k < count → (from ≤ getD places k 0) × (getD places k 0 < to)
+  pub all : (i : ℕ) → from ≤ i → i < to → splitTag (getD tags i 0) ≡ true → Place places count i
+
+-- section i has a knot, a tag, a record and an entry
+pub record Within (knots tags slots entries i : ℕ) : Type 0 where
+  pub small : i < 4096
+  pub knot : i < knots
+  pub tag : i < tags
+  pub slot : slotCount * i + slotCount ≤ slots
+  pub entry : i < entries
+
+-- the entries after the listed ones that are unusual were asked
+pub record Asked (x : List Float) (tags : List ℕ) (slots : List Float) (places : List ℕ) (count : ℕ) (old new : List Float) : Type 0 where
+  pub size : length new ≡ length old
+  pub asked : (k : ℕ) → k < count → asksAt x tags slots (getD places k 0) ≡ true → at new (getD places k 0) ≡ numberAt x tags slots (getD places k 0)
+  pub unasked : (j : ℕ) → asksAt x tags slots j ≡ false → at new j ≡ at old j
+  pub unlisted : (j : ℕ) → ((k : ℕ) → k < count → getD places k 0 ≡ j → ⊥) → at new j ≡ at old j

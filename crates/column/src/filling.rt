@@ -2,26 +2,29 @@
 // the record before it holds: so most entries are read, and few are worked out.
 use curve::curve::Curve;
 use numbers::SLOTS;
+use numbers::is_finite;
 use query::many::primitives;
 use record::knots::TOTAL_AFTER;
 use record::number::primitive_in;
-use record::tag::is_mixed;
 use record::tag::is_split;
+use record::unusual::is_unusual;
 use section::everywhere_constant::EverywhereConstant;
 use table::ends::Seam;
 use table::method::ConvexMonotone;
 ghost use mathlib.Core.Path.{_≡_};
-ghost use mathlib.Core.Bool.{cond, _&&_};
-ghost use Prim.Native.Nat.{_+_, _-_, _*_, _≤_};
-ghost use lib.ListN.{length};
+ghost use mathlib.Core.Bool.{cond};
+ghost use Prim.Native.Nat.{ℕ, _+_, _-_, _*_, _≤_, _<_};
+ghost use lib.ListN.{length, getD};
 ghost use Rattle.numbers.specs.Every.{allBelow};
 ghost use Rattle.numbers.specs.Overlay.{overlay};
 ghost use Rattle.numbers.specs.Sizes.{slotCount};
-ghost use Rattle.record.specs.Tag.{mixedTag};
-ghost use Rattle.choice.specs.Starts.{mixing, weighed};
+ghost use Rattle.choice.specs.Starts.{mixing};
 ghost use Rattle.assembly.specs.Starts.{priceModest, seamModest, periodModest};
 ghost use Rattle.column.specs.Column.{columnAt};
-ghost use Rattle.column.specs.Steps.{modestTable, JustBuilt, startAt, splitAt, entryAt};
+ghost use Rattle.column.specs.Steps.{modestTable, readable, JustBuilt, weighedBy, startAt, askedAt, entryAt, Listed, Within, Asked};
+
+// How many sections are listed at a time.
+const BLOCK: usize = 64;
 
 // What is ordinary: 2 ^ 398, 2 ^ -400, 2 ^ 150 and 1 - 2 ^ -20.
 const FARTHEST_KNOT: f64 = 6.455624695217272e119;
@@ -73,6 +76,16 @@ fn is_modest(xs: &[f64], ys: &[f64], method: ConvexMonotone, seam: Seam) -> bool
     knots & (settings & (seamed & are_modest_periods(xs, ys, last)))
 }
 
+// Whether the entries can be read off the records: the table is of ordinary size, and the total after its last period, and so every total, is finite.
+fn is_readable(xs: &[f64], ys: &[f64], method: ConvexMonotone, seam: Seam, slots: &[f64]) -> bool
+    requires { ⌜ (2 ≤ length (now xs)) × (length (now xs) ≡ length (now ys)) × (length (now xs) ≤ 4096) × (slotCount * (length (now xs) - 1) ≤ length (now slots)) ⌝ }
+    ensures { λ r. ⌜ r ≡ readable (now (xs .entry)) (now (ys .entry)) method seam (now (slots .entry)) ⌝ }
+{
+    let from = SLOTS * (xs.len() - 2);
+    let counted = is_finite(slots[from + TOTAL_AFTER]);
+    is_modest(xs, ys, method, seam) & counted
+}
+
 // Whether these settings make sections of two parts.
 fn is_mixing(method: ConvexMonotone) -> bool
     ensures { λ r. ⌜ r ≡ mixing method ⌝ }
@@ -80,49 +93,92 @@ fn is_mixing(method: ConvexMonotone) -> bool
     (0.0 < method.quadraticity) & (method.quadraticity < 1.0)
 }
 
-// What a section that is not split starts from: the total, which one of two parts weighs against itself.
-fn start_of(method: ConvexMonotone, mixing: bool, tag: u16, total: f64) -> f64
-    ensures { λ r. ⌜ r ≡ cond (mixing && mixedTag tag) (weighed method total) total ⌝ }
+// What a section starts from. The weight of one part alone is 1.0 or 0.0, and then that is the total itself; so the section needs not be asked how many it
+// has, which no processor could foresee.
+fn start_of(mixing: bool, weight: f64, total: f64) -> f64
+    ensures { λ r. ⌜ r ≡ cond mixing (weighedBy weight total) total ⌝ }
 {
     if mixing {
-        if is_mixed(tag) {
-            let weight = method.quadraticity;
-            return weight * total + (1.0 - weight) * total;
-        }
+        return weight * total + (1.0 - weight) * total;
     }
     total
 }
 
-// The entries of sections that are not split. Each total is carried from the record before.
-fn fill_starts(
-    method: ConvexMonotone,
-    tags: &[u16],
-    slots: &[f64],
-    sections: usize,
-    column: &mut [f64],
-)
-    requires { ⌜ (sections ≤ length (now tags)) × (slotCount * sections ≤ length (now slots)) × (sections ≤ length (now column)) × (sections ≤ 4096) ⌝ }
-    ensures { λ _. ⌜ now (column .exit) ≡ overlay 0 sections (startAt method (now (tags .entry)) (now (slots .entry))) (now (column .entry)) ⌝ }
+// The entries of sections without an unusual split. Each total is carried from the record before.
+fn fill_starts(method: ConvexMonotone, slots: &[f64], sections: usize, column: &mut [f64])
+    requires { ⌜ (slotCount * sections ≤ length (now slots)) × (sections ≤ length (now column)) × (sections ≤ 4096) ⌝ }
+    ensures { λ _. ⌜ now (column .exit) ≡ overlay 0 sections (startAt method (now (slots .entry))) (now (column .entry)) ⌝ }
 {
     let mixing = is_mixing(method);
     let mut total = 0.0;
     for i in 0..sections {
-        column[i] = start_of(method, mixing, tags[i], total);
-        total = slots[SLOTS * i + TOTAL_AFTER];
+        let from = SLOTS * i;
+        column[i] = start_of(mixing, slots[from], total);
+        total = slots[from + TOTAL_AFTER];
     }
 }
 
-// A split section is asked for its own number; the other entries stay.
-fn fill_splits(xs: &[f64], tags: &[u16], slots: &[f64], sections: usize, column: &mut [f64])
-    requires { ⌜ (sections ≤ length (now xs)) × (sections ≤ length (now tags)) × (slotCount * sections ≤ length (now slots)) × (sections ≤ length (now column)) × (sections ≤ 4096) ⌝ }
-    ensures { λ _. ⌜ now (column .exit) ≡ overlay 0 sections (splitAt (now (xs .entry)) (now (tags .entry)) (now (slots .entry)) (now (column .entry))) (now (column .entry)) ⌝ }
+// Lists the split ones of the sections from `from` to `to`, and answers how many they are. Each place is written, and counted only where its section is
+// split: no branch asks the tag, which no processor foresees.
+fn list_splits(tags: &[u16], from: usize, to: usize, places: &mut [u16; BLOCK]) -> usize
+    requires { ⌜ (from ≤ to) × (to ≤ from + 64) × (to ≤ length (now tags)) × (to ≤ 4096) × (length (now places) ≡ 64) ⌝ }
+    ensures { λ r. ⌜ Listed (now (tags .entry)) from to (now (places .exit)) r ⌝ }
 {
-    for i in 0..sections {
+    let mut count = 0;
+    for i in from..to {
+        places[count] = i as u16;
+        if is_split(tags[i]) {
+            count += 1;
+        }
+    }
+    count
+}
+
+// Asks the listed sections that are unusual for their own numbers; the other entries stay.
+fn ask_listed(
+    xs: &[f64],
+    tags: &[u16],
+    slots: &[f64],
+    places: &[u16; BLOCK],
+    count: usize,
+    column: &mut [f64],
+)
+    requires { ⌜ (count ≤ 64) × ((k : ℕ) → k < count → Within (length (now xs)) (length (now tags)) (length (now slots)) (length (now column)) (getD (now places) k 0)) ⌝ }
+    ensures { λ _. ⌜ Asked (now (xs .entry)) (now (tags .entry)) (now (slots .entry)) (now (places .entry)) count (now (column .entry)) (now (column .exit)) ⌝ }
+{
+    for k in 0..count {
+        let i = places[k] as usize;
         let tag = tags[i];
-        if is_split(tag) {
-            let from = SLOTS * i;
+        let from = SLOTS * i;
+        if is_unusual(tag, &slots[from..from + SLOTS], xs[i]) {
             column[i] = primitive_in(tag, &slots[from..from + SLOTS], xs[i]).or_zero();
         }
+    }
+}
+
+// The entries of one block.
+fn fill_block(xs: &[f64], tags: &[u16], slots: &[f64], from: usize, to: usize, column: &mut [f64])
+    requires { ⌜ (from ≤ to) × (to ≤ from + 64) × (to ≤ length (now xs)) × (to ≤ length (now tags)) × (slotCount * to ≤ length (now slots)) × (to ≤ length (now column)) × (to ≤ 4096) ⌝ }
+    ensures { λ _. ⌜ now (column .exit) ≡ overlay from (to - from) (λ k. askedAt (now (xs .entry)) (now (tags .entry)) (now (slots .entry)) (now (column .entry)) (from + k)) (now (column .entry)) ⌝ }
+{
+    let mut places = [0; BLOCK];
+    let count = list_splits(tags, from, to, &mut places);
+    ask_listed(xs, tags, slots, &places, count, column);
+}
+
+// A split section that is unusual is asked for its own number; the other entries stay.
+fn fill_splits(xs: &[f64], tags: &[u16], slots: &[f64], sections: usize, column: &mut [f64])
+    requires { ⌜ (sections ≤ length (now xs)) × (sections ≤ length (now tags)) × (slotCount * sections ≤ length (now slots)) × (sections ≤ length (now column)) × (sections ≤ 4096) ⌝ }
+    ensures { λ _. ⌜ now (column .exit) ≡ overlay 0 sections (askedAt (now (xs .entry)) (now (tags .entry)) (now (slots .entry)) (now (column .entry))) (now (column .entry)) ⌝ }
+{
+    let mut from = 0;
+    while from < sections {
+        let mut to = sections;
+        if sections - from > BLOCK {
+            to = from + BLOCK;
+        }
+        fill_block(xs, tags, slots, from, to, column);
+        from = to;
     }
 }
 
@@ -138,7 +194,7 @@ fn fill_sections(
     requires { ⌜ (sections ≤ length (now xs)) × (sections ≤ length (now tags)) × (slotCount * sections ≤ length (now slots)) × (sections ≤ length (now column)) × (sections ≤ 4096) ⌝ }
     ensures { λ _. ⌜ now (column .exit) ≡ overlay 0 sections (entryAt method (now (xs .entry)) (now (tags .entry)) (now (slots .entry))) (now (column .entry)) ⌝ }
 {
-    fill_starts(method, tags, slots, sections, column);
+    fill_starts(method, slots, sections, column);
     if !method.force_positive {
         return;
     }
@@ -160,7 +216,7 @@ pub(crate) fn fill(
     requires { ⌜ JustBuilt (now xs) (now ys) method seam curve (now tags) (now slots) ⌝ }
     ensures { λ _. ⌜ now (column .exit) ≡ overlay 0 (length (now (xs .entry))) (columnAt (now (xs .entry)) curve (now (tags .entry)) (now (slots .entry))) (now (column .entry)) ⌝ }
 {
-    if !is_modest(xs, ys, method, seam) {
+    if !is_readable(xs, ys, method, seam, slots) {
         let _ = primitives(xs, curve, tags, slots, xs, column);
         return;
     }

@@ -1,11 +1,11 @@
 -- The convex-monotone kinds stay finite in the period: for nodes within 2 ^ 153 of the average, an average within 2 ^ 150, and an eta that is not at an end.
-use mathlib.Core.Bool.{Bool, true, false, not, cond}
+use mathlib.Core.Bool.{Bool, true, false, cond}
 use mathlib.Core.Path.{_≡_, refl}
 use lib.IntN.{negsuc}
 use lib.Dec.{lit<, lit≤}
 use lib.Ieee.{Float, le, lt, sub, ofBits}
 use Rattle.numbers.specs.Words.{_⊕_, _⊖_, _⊗_, _⊘_, zero, half, one, narrow, finite}
-use Rattle.numbers.proofs.Ways.{never, of-both, of-each}
+use Rattle.numbers.proofs.Ways.{not-not, of-both, of-each}
 use Rattle.numbers.proofs.Bounds.{Within, Low, within-finite, wider, neg-within, sum-within, difference-within, product-within, quotient-within}
 use Rattle.numbers.proofs.Low.{product-low}
 use Rattle.numbers.proofs.Ratios.{zero-within, half-within, one-within, two-low, three-low, over-narrow}
@@ -51,46 +51,48 @@ half-inner = record {
   rest-low = record { part = 1; power = negsuc 0; is = refl; size = lit≤ tt };
 }
 
-not-not : (b : Bool) → not b ≡ false → b ≡ true
-not-not true h = refl
-not-not false h = never refl h
+-- the sizes of the fourth kind, as it is built or reshaped by a split
+pub record Sized (s : ConvexMonotone4) : Type 0 where
+  pub inner : Inner (s .eta4)
+  pub average : Within 158 (s .«f_average»)
+  pub prev : Within 159 (s .«g_prev»)
+  pub next : Within 159 (s .«g_next»)
+  pub turn : Within 161 (s .a)
 
--- the two parabolas of the fourth kind, at a place that may lie outside the period
-module _ (s : ConvexMonotone4) (inner : Inner (s .eta4)) (wy : Within 158 (s .«f_average»)) (wP : Within 159 (s .«g_prev»)) (wN : Within 159 (s .«g_next»)) (wa : Within 161 (s .a))
-    {v : Float} (wv : Within 42 v) where
+-- its two parabolas, at a place that may lie outside the period
+module _ (s : ConvexMonotone4) (sized : Sized s) {v : Float} (wv : Within 42 v) where
+  open Sized sized using (inner)
+
   left-within : Within 1000 (cm4.«left_value» s v)
   left-within =
       let far = difference-within (inner .within) wv tt in
-      let bent = quotient-within (product-within (product-within (difference-within wP wa tt) far tt) far tt) (square (wider (inner .within) tt) (inner .low)) tt in
-      wider (sum-within (sum-within wy wa tt) bent tt) tt
+      let bent = product-within (product-within (difference-within (sized .prev) (sized .turn) tt) far tt) far tt in
+      wider (sum-within (sum-within (sized .average) (sized .turn) tt) (quotient-within bent (square (wider (inner .within) tt) (inner .low)) tt) tt) tt
 
   right-within : Within 1000 (cm4.«right_value» s v)
   right-within =
       let far = difference-within wv (inner .within) tt in
       let rest = wider (difference-within one-within (inner .within) tt) tt in
-      let bent = quotient-within (product-within (product-within (difference-within wN wa tt) far tt) far tt) (square rest (inner .rest-low)) tt in
-      wider (sum-within (sum-within wy wa tt) bent tt) tt
+      let bent = product-within (product-within (difference-within (sized .next) (sized .turn) tt) far tt) far tt in
+      wider (sum-within (sum-within (sized .average) (sized .turn) tt) (quotient-within bent (square rest (inner .rest-low)) tt) tt) tt
 
 -- the weighted middle of the two nodes
-pub middle : {eta P N : Float} → Within 0 eta → Within 159 P → Within 159 N → Within 161 (eta ⊗ P ⊕ (one ⊖ eta) ⊗ N)
+middle : {eta P N : Float} → Within 0 eta → Within 159 P → Within 159 N → Within 161 (eta ⊗ P ⊕ (one ⊖ eta) ⊗ N)
 middle we wP wN = sum-within (product-within we wP tt) (product-within (difference-within one-within we tt) wN tt) tt
 
-module _ (x0 x1 y total x : Float) (wy : Within 150 y) (at : Within 0 ((x ⊖ x0) ⊘ (x1 ⊖ x0))) where
-  whole : {P N eta : Float} → Within 153 P → Within 153 N → Inner eta → Within 1000 (cm4.value (cm4.new x0 x1 P N y eta total) x)
-  unfolding cm4.value
-  whole {P} {N} {eta} wP wN inner =
-      let s = cm4.new x0 x1 P N y eta total in
-      let wa = product-within (neg-within half-within) (middle (inner .within) (wider wP tt) (wider wN tt)) tt in
-      of-both (Within 1000) (le ((x ⊖ x0) ⊘ (x1 ⊖ x0)) eta) _ _
-      (left-within s inner (wider wy tt) (wider wP tt) (wider wN tt) wa (wider at tt))
-      (right-within s inner (wider wy tt) (wider wP tt) (wider wN tt) wa (wider at tt))
+module _ (x0 x1 total : Float) {P N y eta : Float} (wP : Within 153 P) (wN : Within 153 N) (wy : Within 150 y) (inner : Inner eta) where
+  pub built-sized : Sized (cm4.new x0 x1 P N y eta total)
+  built-sized = record {
+    inner = inner;
+    average = wider wy tt;
+    prev = wider wP tt;
+    next = wider wN tt;
+    turn = product-within (neg-within half-within) (middle (inner .within) (wider wP tt) (wider wN tt)) tt;
+  }
 
-  -- Squeezed by a ratio that is not next to nothing: the ratio may be anything else, an infinity included.
-  squeezed : {P N eta : Float} → Within 153 P → Within 153 N → Inner eta → lt narrow (cm4min.split (cm4.new x0 x1 P N y eta total) .«x_ratio») ≡ true
-      → Within 1000 (cm4min.value (cm4min.split (cm4.new x0 x1 P N y eta total)) x)
-  unfolding cm4min.value cm4min.split
-  squeezed {P} {N} {eta} wP wN inner h =
-      let s = cm4min.split (cm4.new x0 x1 P N y eta total) in
+  pub split-sized : Sized (cm4min.split (cm4.new x0 x1 P N y eta total) .base)
+  unfolding cm4min.split
+  split-sized =
       let wf = sum-within wP wy tt in
       let wg = sum-within wN wy tt in
       let rest = difference-within one-within (inner .within) tt in
@@ -98,10 +100,26 @@ module _ (x0 x1 y total x : Float) (wy : Within 150 y) (at : Within 0 ((x ⊖ x0
       let moved = sum-within wy (difference-within third wy tt) tt in
       let prev = difference-within wf moved tt in
       let next = difference-within wg moved tt in
-      let wa = quotient-within (neg-within (middle (inner .within) prev next)) two-low tt in
-      of-both (Within 1000) (le x (s .x2)) _ _ (left-within (s .base) inner moved prev next wa (wider (over-narrow (s .«x_ratio») at h tt) tt))
+      record { inner = inner; average = moved; prev = prev; next = next; turn = quotient-within (neg-within (middle (inner .within) prev next)) two-low tt }
+
+module _ (x0 x1 y total x : Float) (wy : Within 150 y) (at : Within 0 ((x ⊖ x0) ⊘ (x1 ⊖ x0))) where
+  whole : {P N eta : Float} → Within 153 P → Within 153 N → Inner eta → Within 1000 (cm4.value (cm4.new x0 x1 P N y eta total) x)
+  unfolding cm4.value
+  whole {P} {N} {eta} wP wN inner =
+      let s = cm4.new x0 x1 P N y eta total in
+      let sized = built-sized x0 x1 total wP wN wy inner in
+      of-both (Within 1000) (le ((x ⊖ x0) ⊘ (x1 ⊖ x0)) eta) _ _ (left-within s sized (wider at tt)) (right-within s sized (wider at tt))
+
+  -- Squeezed by a ratio that is not next to nothing: the ratio may be anything else, an infinity included.
+  squeezed : {P N eta : Float} → Within 153 P → Within 153 N → Inner eta → lt narrow (cm4min.split (cm4.new x0 x1 P N y eta total) .«x_ratio») ≡ true
+      → Within 1000 (cm4min.value (cm4min.split (cm4.new x0 x1 P N y eta total)) x)
+  unfolding cm4min.value cm4min.split
+  squeezed {P} {N} {eta} wP wN inner h =
+      let s = cm4min.split (cm4.new x0 x1 P N y eta total) in
+      let sized = split-sized x0 x1 total wP wN wy inner in
+      of-both (Within 1000) (le x (s .x2)) _ _ (left-within (s .base) sized (wider (over-narrow (s .«x_ratio») at h tt) tt))
       (of-both (Within 1000) (lt x (s .x3)) _ _ (wider zero-within tt)
-      (right-within (s .base) inner moved prev next wa (difference-within one-within (over-narrow (s .«x_ratio») (difference-within one-within at tt) h tt) tt)))
+      (right-within (s .base) sized (difference-within one-within (over-narrow (s .«x_ratio») (difference-within one-within at tt) h tt) tt)))
 
   pub safe : {P N eta : Float} → Within 153 P → Within 153 N → Inner eta → Within 1000 (cm4min.value (cm4min.safe x0 x1 P N y eta total) x)
   unfolding cm4min.safe cm4min.«of_base»

@@ -1,7 +1,7 @@
 -- 000, ConvexMonotone4MinHelper
 use mathlib.Core.Bool.{Bool, true, false, not, cond, _&&_}
 use lib.Ieee.{Float, le, lt, neg}
-use Rattle.numbers.specs.Words.{_⊕_, _⊖_, _⊗_, _⊘_, zero, half, one, two, three, narrow}
+use Rattle.numbers.specs.Words.{_⊕_, _⊖_, _⊗_, _⊘_, zero, half, one, two, three, narrow, ordinaryRatio}
 use Rattle.convex.specs.declared.convex_monotone4.ConvexMonotone4.{ConvexMonotone4}
 use Rattle.convex.specs.declared.convex_monotone4_min.ConvexMonotone4Min.{ConvexMonotone4Min}
 use Rattle.convex.specs.ConvexMonotone4 as cm4
@@ -91,6 +91,10 @@ module _ (s : ConvexMonotone4Min) where
       cond (not «split_region») (cm4.primitive base x)
       (cond (le x x2) (cm4.«left_primitive» base scaling (before x))
       (cond (le x x3) «zero_primitive» (cm4.«right_primitive» base scaling (after x))))
+
+  -- our own: split, but x does not lie before the zero stretch or at its start, or the ratio is not of ordinary size
+  abbrev pub unusual : Float → Bool
+  unusual x = «split_region» && not (le x x2 && ordinaryRatio «x_ratio»)
 
   abbrev pub «f_next» : Float
   «f_next» = cm4.«f_next» base

@@ -1,10 +1,10 @@
--- What the named numbers are worth: the whole numbers and halves exactly, the others as the binary64 value nearest to the decimal.
+-- What the named numbers are worth: the whole numbers, halves and powers of two exactly, the others as the binary64 value nearest to the decimal.
 use mathlib.Core.Bool.{false}
 use mathlib.Core.Path.{_≡_, refl}
 use Prim.Native.Nat.{ℕ, _^_}
 use lib.Ieee.{Float, binary64, ofBits, round}
 use lib.Ieee.Exact.{HasValue}
-use Rattle.numbers.specs.Words.{zero, half, one, threeHalves, two, three, four, six, twentyFour, thirtySix, tiny, narrow, threeTenths, sevenTenths}
+use Rattle.numbers.specs.Words.{zero, half, one, threeHalves, two, three, four, six, twentyFour, thirtySix, tiny, narrow, leastRatio, mostRatio, threeTenths, sevenTenths}
 
 -- x is + a / c, exactly
 abbrev Worth : Float → ℕ → ℕ → Type 0
@@ -14,6 +14,10 @@ pub exact : Worth zero 0 1 × Worth half 1 2 × Worth one 1 1 × Worth threeHalv
     × Worth three 3 1 × Worth four 4 1 × Worth six 6 1 × Worth twentyFour 24 1 × Worth thirtySix 36 1
 unfolding ofBits
 exact = ((refl, refl), (refl, refl), (refl, refl), (refl, refl), (refl, refl), (refl, refl), (refl, refl), (refl, refl), (refl, refl), (refl, refl))
+
+pub powers : Worth leastRatio 1 (2 ^ 60) × Worth mostRatio (2 ^ 60) 1
+unfolding ofBits
+powers = ((refl, refl), (refl, refl))
 
 -- x is a / c rounded to the nearest binary64 value
 abbrev Nearest : Float → ℕ → ℕ → Type 0

@@ -1,21 +1,22 @@
--- Lower bounds: numbers that are at least a power of two.
+-- Lower bounds: numbers that are at least a power of two, and what bounds the divisor of a quotient that is.
 use Prim.Native.Nat as nat
 use Prim.Native.Nat.{ℕ, suc, _+_, _*_, _^_, _≤_, _<_}
 use native.Mathlib.Omega.{arith}
-use native.Mathlib.Nat.{mul-assoc, mul-comm, mul-left-comm, mul-one, one-mul, zero-mul, add-zero, mul-pos, mul-le-mul, mul-le-mul-left, mul-le-mul-right, le-of-mul-le-mul-right, le-refl, le-trans}
+use native.Mathlib.Nat.{mul-assoc, mul-comm, mul-left-comm, mul-one, one-mul, zero-mul, add-zero, zero-add, mul-pos, mul-le-mul, mul-le-mul-left, mul-le-mul-right, le-of-mul-le-mul-right, le-refl, le-trans, pow-suc, zero-lt-suc}
 use mathlib.Core.Bool.{Bool, true, false}
+use mathlib.Core.Logic.{⊎-elim}
 use mathlib.Core.Path.{_≡_, refl}
 use lib.IntN.{ℤ, negsuc}
 use lib.Dec.{T, ltb, leb, leb→le, le→leb, lt→ltb}
 use lib.Pow.{pow-add, pow-pos, pow-mono}
-use lib.Ieee.{Float, nan, inf, fin, binary64, round, mul, lt, le, up, down, ofBits, fits}
+use lib.Ieee.{Float, nan, inf, fin, binary64, round, mul, div, unlike, lt, le, up, down, ofBits, fits}
 use lib.Ieee.Fits.{down-pos, up-pos, and-i}
-use borrow.Author.Tests.{lt-ltb, ltb-true}
-use Rattle.numbers.specs.Words.{_⊗_, zero, finite}
-use Rattle.numbers.proofs.Ways.{never}
-use Rattle.numbers.proofs.AtMost.{AtMost, le-at-most}
-use Rattle.numbers.proofs.Rounding.{rounds, own-below}
-use Rattle.numbers.proofs.Bounds.{Low, low-part}
+use borrow.Author.Tests.{lt-ltb, ltb-true, ne-eqb}
+use Rattle.numbers.specs.Words.{_⊗_, _⊘_, zero, finite}
+use Rattle.numbers.proofs.Ways.{never, lt-or-le}
+use Rattle.numbers.proofs.AtMost.{plus, less, AtMost, le-at-most}
+use Rattle.numbers.proofs.Rounding.{rounds, own-below, own-above}
+use Rattle.numbers.proofs.Bounds.{Within, Low, low-part}
 
 -- 2 ^ -(j + 1)
 abbrev pub small : ℕ → Float
@@ -87,3 +88,46 @@ product-low {i} {j} {x} {y} h p q f e H = low-up (x ⊗ y) (small-low h) least f
     least =
         rw (p .is, q .is)
         (round-low h (p .part * up (p .power) * (q .part * up (q .power))) (down (p .power) * down (q .power)) (mul-pos (down-pos (p .power)) (down-pos (q .power))) H most)
+
+-- ---- a number whose quotient is at least 2 ^ -j is divided by no more than 2 ^ (j + 1) times its own bound
+-- what is at least 2 ^ -j is not at most the half of that
+not-half : {j : ℕ} {x : Float} {A : Type 0} → Low j x → le x (small j) ≡ true → A
+not-half {j} l h =
+    let part = l .part * up (l .power) in
+    let o = simp (one-mul, zero-mul, add-zero) at (le-at-most false (l .part) (l .power) false 1 (negsuc j) (rw (l .is) at h)) in
+    let twice : part * 2 ^ suc j ≡ 2 ^ j * part + 2 ^ j * part = rw (mul-comm part (2 ^ suc j), pow-suc 2 j) (omega arith) in
+    absurd (omega (arith, l .size, down-pos (l .power)))
+
+-- a / E over b / D is at most 2 ^ -(j + 1) where b / D is more than 2 ^ (k + j + 1) and a / E at most 2 ^ k
+outgrown : (j k a E b D : ℕ) → a ≤ 2 ^ k * E → 2 ^ suc (k + j) * D < b → a * D * 2 ^ suc j ≤ b * E
+outgrown j k a E b D h l =
+    let first : a * (D * 2 ^ suc j) ≤ 2 ^ k * E * (D * 2 ^ suc j) = mul-le-mul-right (D * 2 ^ suc j) h in
+    let power : 2 ^ suc (k + j) ≡ 2 ^ k * 2 ^ suc j = rw (pow-suc 2 (k + j), pow-suc 2 j, pow-add 2 k j) (simp (mul-assoc, mul-comm, mul-left-comm)) in
+    let same : 2 ^ k * E * (D * 2 ^ suc j) ≡ 2 ^ suc (k + j) * D * E = rw power (simp (mul-assoc, mul-comm, mul-left-comm)) in
+    let second : 2 ^ suc (k + j) * D * E ≤ b * E = mul-le-mul-right E (omega arith) in
+    rw (mul-assoc a D (2 ^ suc j)) (le-trans (rw same at first) second)
+
+halved : (u : Bool) (a q c : ℕ) → a * q ≤ c → plus u a * q + 0 * c ≤ 1 * 1 * c + less u a * q
+halved true a q c h = simp (zero-mul, zero-add) nat.zero-le
+halved false a q c h = simp (zero-mul, add-zero, one-mul) h
+
+divisor-at : (j k : ℕ) (s : Bool) (m : ℕ) (e : ℤ) (t : Float) → m * up e ≤ 2 ^ k * down e → Low j (fin s m e ⊘ t) → j < 1074 → Within (suc (k + j)) t
+unfolding div
+divisor-at j k s m e nan h l J = let z : _≡_ {A = ℕ} 0 1 = cc (l .is) in absurd (omega arith)
+divisor-at j k s m e (inf t) h l J = let z : l .part ≡ 0 = cc (l .is) in absurd (omega (arith, low-part l))
+divisor-at j k s m e (fin t nat.zero d) h l J = record { sign = t; part = 0; power = d; is = refl; size = simp zero-mul nat.zero-le }
+divisor-at j k s m e (fin t (suc n) d) h l J =
+    ⊎-elim
+    (λ (g : 2 ^ suc (k + j) * down d < suc n * up d).
+    let u = unlike s t in
+    let a = m * up e * down d in
+    let c = suc n * up d * down e in
+    let r = rounds {x = fin s m e ⊘ fin t (suc n) d} u a (plus u a) (less u a) c (rw (ne-eqb (suc n) 0 (λ q. omega arith)) refl) refl in
+    not-half l
+    (own-above false 1 (negsuc j) (small-fits j J) r (mul-pos (mul-pos (zero-lt-suc n) (up-pos d)) (down-pos e))
+    (halved u a (2 ^ suc j) c (outgrown j k (m * up e) (down e) (suc n * up d) (down d) h g))))
+    (λ (g : suc n * up d ≤ 2 ^ suc (k + j) * down d). record { sign = t; part = suc n; power = d; is = refl; size = g })
+    (lt-or-le (2 ^ suc (k + j) * down d) (suc n * up d))
+
+pub divisor-within : {j k : ℕ} {y : Float} (t : Float) → Within k y → Low j (y ⊘ t) → j < 1074 → Within (suc (k + j)) t
+divisor-within {j} {k} t w l J = divisor-at j k (w .sign) (w .part) (w .power) t (w .size) (rw (w .is) at l) J

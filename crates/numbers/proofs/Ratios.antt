@@ -10,8 +10,9 @@ use lib.Dec.{T, ltb, lit<, lit≤}
 use lib.Ieee.{Float, nan, inf, fin, binary64, round, add, sub, mul, div, neg, unlike, lt, eq, le, up, down, ofBits, fits}
 use lib.Ieee.Fits.{down-pos, up-pos}
 use borrow.Author.Tests.{eq-eqb, ne-eqb, lt-ltb, ltb-true}
-use Rattle.numbers.specs.Words.{_⊖_, _⊗_, _⊘_, zero, half, one, two, three, four, six, narrow, finite}
+use Rattle.numbers.specs.Words.{_⊖_, _⊗_, _⊘_, zero, half, one, two, three, four, six, narrow, leastRatio, mostRatio, ordinaryRatio, finite}
 use Rattle.numbers.proofs.Ways.{never}
+use Rattle.numbers.proofs.Every.{and-split}
 use Rattle.numbers.proofs.Signs.{magnitude-pos}
 use Rattle.numbers.proofs.Order.{lt-on}
 use Rattle.numbers.proofs.AtMost.{plus, less, AtMost, le-at-most, at-most-le, le-on, le-neg, le-of-below}
@@ -19,7 +20,7 @@ use Rattle.numbers.proofs.Rounding.{rounds, rounded-mono, zero-rounded,
 use Rattle.numbers.proofs.Shrinking.{between-finite}
 use Rattle.numbers.proofs.Sums.{difference-anti}
 use Rattle.numbers.proofs.Finite.{sum-self}
-use Rattle.numbers.proofs.Bounds.{Within, Low, quotient-within, all-plus}
+use Rattle.numbers.proofs.Bounds.{Within, Low, within-finite, quotient-within, all-plus}
 use Rattle.numbers.proofs.Monotone.{over-rounded, difference-mono, not-both}
 use Rattle.numbers.proofs.Low.{Above, above, small, small-low, low-up}
 
@@ -276,3 +277,17 @@ unfolding finite div lt ofBits
 over-narrow nan w h K = never h refl
 over-narrow {k} (inf s) w h K = rw (w .is) (record { sign = unlike (w .sign) s; part = 0; power = pos 0; is = refl; size = nat.zero-le })
 over-narrow (fin s m e) w h K = quotient-within w (narrow-low (fin s m e) h refl) K
+
+-- ---- a ratio of ordinary size
+most-within : Within 60 mostRatio
+unfolding ofBits
+most-within = record { sign = false; part = 1; power = pos 60; is = refl; size = lit≤ tt }
+
+pub ordinary-within : (r : Float) → ordinaryRatio r ≡ true → Within 60 r
+unfolding le ofBits
+ordinary-within r h = let p = and-split (le leastRatio r) (le r mostRatio) h in between-within r most-within (le-on zero leastRatio r refl (p .0)) (p .1)
+
+pub ordinary-low : (r : Float) → ordinaryRatio r ≡ true → Low 60 r
+unfolding le ofBits
+ordinary-low r h =
+    low-up r (small-low 59) (le-on (small 59) leastRatio r refl (and-split (le leastRatio r) (le r mostRatio) h .0)) (within-finite (ordinary-within r h))

@@ -1,4 +1,5 @@
 -- A sum does not fall as what is added rises, nor does a difference rise with what is taken away, and the difference of two rising numbers is not below 0.
+-- A finite sum has a finite first part.
 use Prim.Native.Nat.{ℕ, _+_, _-_, _*_, _≤_, _<_}
 use native.Mathlib.Omega.{arith}
 use native.Mathlib.Nat.{mul-pos, mul-assoc, mul-comm, mul-left-comm, mul-one, zero-mul, add-zero, zero-add, add-mul, mul-le-mul-right, le-refl}
@@ -113,3 +114,15 @@ length-from-zero (fin s m e) (inf t) f g h = never g refl
 length-from-zero (fin s m e) (fin t n d) f g h =
     rounded-mono zero-rounded (plus-rounded t n d (not s) m e) (lit< tt) (mul-pos (down-pos d) (down-pos e))
     (simp (mul-one, zero-mul, zero-add, add-zero) (turned s t (m * up e) (down e) (n * up d) (down d) (le-at-most s m e t n d (le-of-below (fin s m e) (fin t n d) h))))
+
+-- what is no finite number stays so, whatever is added
+pub sum-finite-left : (x y : Float) → finite (x ⊕ y) ≡ true → finite x ≡ true
+unfolding finite add
+sum-finite-left nan y h = h
+sum-finite-left (inf s) nan h = h
+sum-finite-left (inf true) (inf true) h = h
+sum-finite-left (inf true) (inf false) h = h
+sum-finite-left (inf false) (inf true) h = h
+sum-finite-left (inf false) (inf false) h = h
+sum-finite-left (inf s) (fin t n d) h = h
+sum-finite-left (fin s m e) y h = refl

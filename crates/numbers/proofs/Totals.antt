@@ -1,4 +1,5 @@
--- A running total fits and is not -0.0, since it starts from +0.0. It may be an infinity or the NaN. A zero of either sign that is added to it leaves it as it is.
+-- A running total fits and is not -0.0, since it starts from +0.0. It may be an infinity or the NaN. A zero of either sign that is added to it leaves it as it is,
+-- and so does the share of it that weighs nothing, where it is finite.
 use Prim.Native.Nat as nat
 use Prim.Native.Nat.{ℕ, suc, _+_, _-_, _*_, _%_, _^_, _≤_, _<_}
 use native.Mathlib.Omega.{arith}
@@ -10,24 +11,26 @@ use borrow.Author.Tests.{lt-ltb, le-ltb}
 use lib.IntN.{ℤ, pos, negsuc}
 use lib.Dec.{T, eqb, ltb, leb, leb→le, lit<, lit≤}
 use lib.Pow.{pow-add}
-use lib.Ieee.{Float, nan, inf, fin, binary64, prec, emax, low, round, sum, neg, add, le, up, down, ofBits, toBits, fits}
+use lib.Ieee.{Float, nan, inf, fin, binary64, prec, emax, low, round, sum, neg, add, sub, mul, le, up, down, ofBits, toBits, fits}
 use lib.Ieee.Bits.{ofBits-toBits}
 use lib.Ieee.Digits.{back}
 use lib.Ieee.Exact.{HasValue}
 use lib.Ieee.Fits.{down-pos, up-pos, and-l, and-r, round-fits, add-fits}
 use lib.Ieee.Nearest.{div-same}
 use lib.Ieee.Scale.{round-same}
-use Rattle.numbers.specs.Words.{_⊕_, _⊖_, _⊘_, zero}
+use Rattle.numbers.specs.Words.{_⊕_, _⊖_, _⊗_, _⊘_, zero, one, finite}
 use Rattle.numbers.proofs.Ways.{never, lt-or-le}
 use Rattle.numbers.proofs.Signs.{zero-exponent}
 use Rattle.numbers.proofs.Finite.{round-zero}
 use Rattle.numbers.proofs.AtMost.{le-on}
 use Rattle.numbers.proofs.Rounding.{own-value, round-neg}
 use Rattle.numbers.proofs.Plus.{isPlus, round-sign}
+use Rattle.numbers.proofs.Shrinking.{product-comm}
 use Rattle.numbers.proofs.Bounds.{Within}
+use Rattle.numbers.proofs.Monotone.{sum-comm}
 use Rattle.numbers.proofs.Low.{small, round-low}
-use Rattle.numbers.proofs.Ratios.{zero-level}
-use Rattle.numbers.proofs.Zeros.{Zero}
+use Rattle.numbers.proofs.Ratios.{zero-level, self-less}
+use Rattle.numbers.proofs.Zeros.{Zero, zero-zero, finite-product-zero}
 
 -- -0.0
 unfoldable pub isMinusZero : Float → Bool
@@ -93,6 +96,32 @@ total-stays {x} {z} total v = rw (v .is) (by x (total .fit) (total .not-minus))
     by nan f h = unfold add in refl
     by (inf s) f h = unfold add in refl
     by (fin s m e) f h = stays-at s m e (v .sign) (v .power) f h
+
+-- ---- all of a finite total with nothing of it is that total
+one-times : (s : Bool) (m : ℕ) (e : ℤ) → T (fits binary64 (fin s m e)) → one ⊗ fin s m e ≡ fin s m e
+unfolding mul ofBits
+one-times s m e f = rw (product-comm one (fin s m e)) (by s f)
+  where
+    by : (s : Bool) → T (fits binary64 (fin s m e)) → fin s m e ⊗ one ≡ fin s m e
+    by true f = own true m e 1 (lit< tt) f
+    by false f = own false m e 1 (lit< tt) f
+
+one-total : (t : Float) → T (fits binary64 t) → finite t ≡ true → one ⊗ t ≡ t
+unfolding finite
+one-total nan f g = never g refl
+one-total (inf s) f g = never g refl
+one-total (fin s m e) f g = one-times s m e f
+
+module _ {t : Float} (total : Total t) (known : finite t ≡ true) where
+  pub all-of-first : one ⊗ t ⊕ (one ⊖ one) ⊗ t ≡ t
+  unfolding finite ofBits
+  all-of-first = rw (one-total t (total .fit) known, self-less one refl) (total-stays total (finite-product-zero t zero-zero known))
+
+  pub all-of-second : zero ⊗ t ⊕ (one ⊖ zero) ⊗ t ≡ t
+  unfolding sub ofBits
+  all-of-second =
+      let whole : one ⊖ zero ≡ one = refl in
+      rw (whole, one-total t (total .fit) known, sum-comm (zero ⊗ t) t) (total-stays total (finite-product-zero t zero-zero known))
 
 -- ---- what it grows to is a total again: of two numbers that fit, the sum is nothing, or as large as the smallest number at least, and so not rounded to nothing
 -- the binary digits after the point

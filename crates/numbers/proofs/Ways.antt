@@ -23,6 +23,10 @@ returned e h = sym e ∙ h
 pub asked-not : {a b t : Bool} → a ≡ b → not a ≡ t → not b ≡ t
 asked-not e h = sym (ap not e) ∙ h
 
+pub not-not : (b : Bool) → not b ≡ false → b ≡ true
+not-not true h = refl
+not-not false h = never refl h
+
 pub or-some : (a b : Bool) → a || b ≡ true → (a ≡ true) ⊎ (b ≡ true)
 or-some true b h = inl refl
 or-some false b h = inr h

@@ -7,9 +7,10 @@ use mathlib.Core.Bool.{Bool, true, false, not}
 use mathlib.Core.Path.{_≡_, refl, ap, _∙_}
 use borrow.Author.Tests.{le-ltb, ne-eqb}
 use lib.IntN.{ℤ, pos}
-use lib.Ieee.{Float, fin, binary64, round, sum, unlike, neg, add, sub, mul, div, le, up, down, ofBits}
+use lib.Ieee.{Float, nan, inf, fin, binary64, round, sum, unlike, neg, add, sub, mul, div, le, up, down, ofBits}
 use lib.Ieee.Fits.{down-pos, up-pos}
-use Rattle.numbers.specs.Words.{_⊕_, _⊖_, _⊗_, _⊘_, zero}
+use Rattle.numbers.specs.Words.{_⊕_, _⊖_, _⊗_, _⊘_, zero, finite}
+use Rattle.numbers.proofs.Ways.{never}
 use Rattle.numbers.proofs.Finite.{round-zero}
 use Rattle.numbers.proofs.AtMost.{le-on}
 use Rattle.numbers.proofs.Shrinking.{product-comm}
@@ -34,15 +35,24 @@ none-zero : (s : Bool) (a c : ℕ) → a ≡ 0 → 0 < c → Zero (round binary6
 none-zero s a c e C = record { sign = s; power = pos 0; is = ap (λ (k : ℕ). round binary64 s k c) e ∙ round-zero s c C }
 
 -- ---- the operations
-pub product-zero : {k : ℕ} {x z : Float} → Within k x → Zero z → Zero (x ⊗ z)
+times-zero : (s : Bool) (m : ℕ) (e : ℤ) {z : Float} → Zero z → Zero (fin s m e ⊗ z)
 unfolding mul
-product-zero w v =
-    rw (w .is, v .is)
-    (none-zero (unlike (w .sign) (v .sign)) (w .part * up (w .power) * (0 * up (v .power))) (down (w .power) * down (v .power))
-    (simp (zero-mul, mul-zero)) (mul-pos (down-pos (w .power)) (down-pos (v .power))))
+times-zero s m e v =
+    rw (v .is)
+    (none-zero (unlike s (v .sign)) (m * up e * (0 * up (v .power))) (down e * down (v .power)) (simp (zero-mul, mul-zero)) (mul-pos (down-pos e) (down-pos (v .power))))
+
+pub product-zero : {k : ℕ} {x z : Float} → Within k x → Zero z → Zero (x ⊗ z)
+product-zero w v = rw (w .is) (times-zero (w .sign) (w .part) (w .power) v)
 
 pub zero-product : {k : ℕ} {x z : Float} → Zero z → Within k x → Zero (z ⊗ x)
 zero-product {k} {x} {z} v w = rw (product-comm z x) (product-zero w v)
+
+-- of any finite number
+pub finite-product-zero : {z : Float} (x : Float) → Zero z → finite x ≡ true → Zero (z ⊗ x)
+unfolding finite
+finite-product-zero nan v f = never f refl
+finite-product-zero (inf s) v f = never f refl
+finite-product-zero {z} (fin s m e) v f = rw (product-comm z (fin s m e)) (times-zero s m e v)
 
 pub quotient-zero : {j : ℕ} {y z : Float} → Zero z → Low j y → Zero (z ⊘ y)
 unfolding div

@@ -1,7 +1,7 @@
 -- The words in which every formula of the library is written: Rust's operators on f64, and the numbers that the formulas name.
 -- A number is an IEEE 754 binary64 value with one NaN, so two equal numbers are the same bit for bit, any NaN matching any NaN.
-use mathlib.Core.Bool.{Bool, true, false}
-use lib.Ieee.{Float, nan, inf, fin, binary64, add, sub, mul, div, ofBits}
+use mathlib.Core.Bool.{Bool, true, false, _&&_}
+use lib.Ieee.{Float, nan, inf, fin, binary64, add, sub, mul, div, le, ofBits}
 
 -- one rounding each
 abbrev pub _⊕_ : Float → Float → Float
@@ -58,6 +58,16 @@ tiny = ofBits binary64 0x3d06_849b_86a1_2b9b
 -- 1.0e-12
 abbrev pub narrow : Float
 narrow = ofBits binary64 0x3d71_9799_812d_ea11
+
+-- 2 ^ -60 and 2 ^ 60: a ratio from the one to the other is of ordinary size
+abbrev pub leastRatio : Float
+leastRatio = ofBits binary64 0x3c30_0000_0000_0000
+
+abbrev pub mostRatio : Float
+mostRatio = ofBits binary64 0x43b0_0000_0000_0000
+
+abbrev pub ordinaryRatio : Float → Bool
+ordinaryRatio r = le leastRatio r && le r mostRatio
 
 -- 0.3 and 0.7, the defaults of the method
 abbrev pub threeTenths : Float

@@ -22,14 +22,14 @@ use Rattle.quadratic.specs.QuadraticMin as quadmin
 use Rattle.quadratic.specs.declared.quadratic_min.QuadraticMin.{QuadraticMin}
 
 -- a parabola with these ends and this average, at a place that may lie far outside the period
-module _ {F G y v : Float} (wF : Within 152 F) (wG : Within 152 G) (wy : Within 153 y) (wv : Within 42 v) where
-  pub a-within : Within 157 («a_of» F G y)
+module _ {F G y v : Float} (wF : Within 152 F) (wG : Within 152 G) (wy : Within 211 y) (wv : Within 42 v) where
+  pub a-within : Within 215 («a_of» F G y)
   a-within = difference-within (sum-within (product-within three-within wF tt) (product-within three-within wG tt) tt) (product-within six-within wy tt) tt
 
-  pub b-within : Within 157 («b_of» F G y)
+  pub b-within : Within 215 («b_of» F G y)
   b-within = neg-within (difference-within (sum-within (product-within four-within wF tt) (product-within two-within wG tt) tt) (product-within six-within wy tt) tt)
 
-  squared : Within 241 («a_of» F G y ⊗ v ⊗ v)
+  squared : Within 299 («a_of» F G y ⊗ v ⊗ v)
   squared = product-within (product-within a-within wv tt) wv tt
 
   at-place : Within 1000 (F ⊕ «b_of» F G y ⊗ v ⊕ «a_of» F G y ⊗ v ⊗ v)
@@ -51,9 +51,9 @@ module _ (x0 x1 F G y total x : Float) (wF : Within 152 F) (wG : Within 152 G) (
     split : Within 1000 (quadmin.value (quadmin.split x0 x1 F G y total t) x)
     unfolding quadmin.value quadmin.split
     split =
-        of-both (Within 1000) (le x _) _ _ (at-place wF wG wt (wider (over-narrow (y ⊘ t) at ratio tt) tt))
+        of-both (Within 1000) (le x _) _ _ (at-place wF wG (wider wt tt) (wider (over-narrow (y ⊘ t) at ratio tt) tt))
         (of-both (Within 1000) (lt x _) _ _ (wider zero-within tt)
-        (at-place wF wG wt (difference-within one-within (over-narrow (y ⊘ t) (difference-within one-within at tt) ratio tt) tt)))
+        (at-place wF wG (wider wt tt) (difference-within one-within (over-narrow (y ⊘ t) (difference-within one-within at tt) ratio tt) tt)))
 
 -- ---- the average at which a parabola touches zero
 odd-plus : (d q k l : ℕ) → (finite (odd d false q k l) ≡ true) × (le words.zero (odd d false q k l) ≡ true)

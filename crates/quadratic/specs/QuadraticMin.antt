@@ -1,7 +1,7 @@
 -- 000, QuadraticMinHelper
 use mathlib.Core.Bool.{Bool, true, false, not, cond, _&&_, _||_}
 use lib.Ieee.{Float, le, lt, eq, neg}
-use Rattle.numbers.specs.Words.{_⊕_, _⊖_, _⊗_, _⊘_, zero, one, two, three, four, twentyFour, thirtySix, narrow}
+use Rattle.numbers.specs.Words.{_⊕_, _⊖_, _⊗_, _⊘_, zero, one, two, three, four, twentyFour, thirtySix, narrow, ordinaryRatio}
 use Rattle.root.specs.Root.{root}
 use Rattle.quadratic.specs.Parabola.{«a_of», «b_of», under}
 use Rattle.quadratic.specs.declared.quadratic_min.QuadraticMin.{QuadraticMin}
@@ -172,6 +172,10 @@ module _ (s : QuadraticMin) where
       cond «split_region»
       (cond (lt x x2) («primitive_at» (before x)) (cond (lt x x3) primitive2 («primitive_at» (after x))))
       («primitive_at» («x_val» x))
+
+  -- our own: split, but x does not lie before the zero stretch, or the ratio is not of ordinary size
+  abbrev pub unusual : Float → Bool
+  unusual x = «split_region» && not (lt x x2 && ordinaryRatio «x_ratio»)
 
 abbrev pub «f_next» : QuadraticMin → Float
 «f_next» s = s .«f_next»

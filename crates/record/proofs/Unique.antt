@@ -11,9 +11,9 @@ use Rattle.record.proofs.reader.record_verdict.Reads as record-verdict
 use Rattle.record.proofs.reader.record_slots.Reads as record-slots
 use Rattle.record.proofs.reading.read_section.Reads as read-section
 use Rattle.record.proofs.slots.slots_of.Reads as slots-of
-use Rattle.record.proofs.tag.is_mixed.Reads as is-mixed
 use Rattle.record.proofs.tag.is_split.Reads as is-split
 use Rattle.record.proofs.tag.tag_of.Reads as tag-of
+use Rattle.record.proofs.unusual.is_unusual.Reads as is-unusual
 
 pub knot-prices-unique : OneAnswer knot-prices.Post
 knot-prices-unique κ a r₁ r₂ s t p q = p ∙ sym q
@@ -48,5 +48,5 @@ tag-of-unique κ a r₁ r₂ s t p q = p ∙ sym q
 pub is-split-unique : OneAnswer is-split.Post
 is-split-unique κ a r₁ r₂ s t p q = p ∙ sym q
 
-pub is-mixed-unique : OneAnswer is-mixed.Post
-is-mixed-unique κ a r₁ r₂ s t p q = p ∙ sym q
+pub is-unusual-unique : OneAnswer is-unusual.Post
+is-unusual-unique κ a r₁ r₂ s t p q = p ∙ sym q

@@ -6,3 +6,4 @@ pub mod Slots
 pub mod Knots
 pub mod Reader
 pub mod Steps
+pub mod Unusual

@@ -1,6 +1,6 @@
 -- 01, Buffers and section records: the tag
 use Prim.Native.Nat.{ℕ, _+_, _*_, _/_, _%_, _^_}
-use mathlib.Core.Bool.{Bool, true, false, cond, not, _&&_, _||_}
+use mathlib.Core.Bool.{Bool, true, false, cond, not, _||_}
 use mathlib.Core.List.{List, [], _∷_}
 use lib.Dec.{eqb}
 use Rattle.convex.specs.declared.convex_monotone4_min.ConvexMonotone4Min.{ConvexMonotone4Min}
@@ -97,9 +97,12 @@ tagOf (section.Quadratic s) = quadraticTag (quadratic.Quadratic s)
 tagOf (section.QuadraticMin s) = quadraticTag (quadratic.QuadraticMin s)
 tagOf (section.Combination s) = quadraticTag (s .«quadratic_helper») + convexTag (s .«conv_mono_helper»)
 
--- what a tag tells by itself: that a part is split, by the two bits for it; that there are two parts, by the two codes
-abbrev pub splitTag : ℕ → Bool
-splitTag tag = not (eqb (tag / 2 ^ 12 % 2) 0) || not (eqb (tag / 2 ^ 7 % 2) 0)
+-- what a tag tells by itself: that a part is split, by the bit for it
+abbrev pub quadraticSplitTag : ℕ → Bool
+quadraticSplitTag tag = not (eqb (tag / 2 ^ 12 % 2) 0)
 
-abbrev pub mixedTag : ℕ → Bool
-mixedTag tag = not (eqb (tag / 2 ^ 13) 0) && not (eqb (tag / 2 ^ 8 % 16) 0)
+abbrev pub otherSplitTag : ℕ → Bool
+otherSplitTag tag = not (eqb (tag / 2 ^ 7 % 2) 0)
+
+abbrev pub splitTag : ℕ → Bool
+splitTag tag = quadraticSplitTag tag || otherSplitTag tag

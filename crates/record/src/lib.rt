@@ -7,3 +7,4 @@ pub mod reader;
 pub mod reading;
 pub mod slots;
 pub mod tag;
+pub mod unusual;

@@ -4,7 +4,7 @@ use section::convex_monotone_part::ConvexMonotonePart;
 use section::quadratic_part::QuadraticPart;
 use section::section::Section;
 ghost use mathlib.Core.Path.{_≡_};
-ghost use Rattle.record.specs.Tag.{quadraticNamed, otherNamed, quadraticTag, convexTag, tagOf, splitTag, mixedTag};
+ghost use Rattle.record.specs.Tag.{quadraticNamed, otherNamed, quadraticTag, convexTag, tagOf, quadraticSplitTag, otherSplitTag, splitTag};
 
 // The kind of the quadratic part. A Min kind that is split is a kind of its own, so that nothing is left to be asked once the kind is known. `Unknown`
 // stands for a code, or a split bit, that has no meaning.
@@ -146,16 +146,22 @@ pub fn tag_of(section: Section) -> u16
     }
 }
 
-// Whether a part of the section is split, by the split bits alone.
+// Whether a part is split, by its split bit alone.
+pub(crate) fn is_quadratic_split(tag: u16) -> bool
+    ensures { λ r. ⌜ r ≡ quadraticSplitTag tag ⌝ }
+{
+    tag / QUADRATIC_SPLIT % 2 != 0
+}
+
+pub(crate) fn is_other_split(tag: u16) -> bool
+    ensures { λ r. ⌜ r ≡ otherSplitTag tag ⌝ }
+{
+    tag / OTHER_SPLIT % 2 != 0
+}
+
+// Whether either of them is.
 pub fn is_split(tag: u16) -> bool
     ensures { λ r. ⌜ r ≡ splitTag tag ⌝ }
 {
-    tag / QUADRATIC_SPLIT % 2 != 0 || tag / OTHER_SPLIT % 2 != 0
-}
-
-// Whether the section has two parts, by the codes alone: both name a kind.
-pub fn is_mixed(tag: u16) -> bool
-    ensures { λ r. ⌜ r ≡ mixedTag tag ⌝ }
-{
-    tag / QUADRATIC_CODE != 0 && tag / OTHER_CODE % 16 != 0
+    is_quadratic_split(tag) | is_other_split(tag)
 }

@@ -19,12 +19,12 @@ use Rattle.column.proofs.JustBuilt.{sound, room, answers, entries, last
 use Rattle.column.proofs.filling.fill.Statement.{statement}
 use Rattle.column.proofs.filling.fill.Tie as tie
 
-is-modest-requires : tie.Need-is-modest-requires
-is-modest-requires c κs =
+is-readable-requires : tie.Need-is-readable-requires
+is-readable-requires c κs =
     let s = c .before .before .before .before .before in
     let f = sound (s .pre .1) in
     let g = room (s .pre .1) in
-    (f .low, f .same, g .high)
+    (f .low, f .same, g .high, g .in-slots)
 
 returns : tie.Need-returns
 returns c =
@@ -58,7 +58,7 @@ returns-2 c =
     let s = c .before .before .before .before .before .before .before .before .before .before .before .before .before .before .before in
     let a = s .args in
     let e : length (a .xs .now) - 1 + 1 ≡ length (a .xs .now) = omega (arith, sound (s .pre .1) .low) in
-    let test = returned (c .before .before .before .before .before .before .before .before .before .is-modest .ensures) (not-false _ (c .before .before .before .before .before .before .before .before .if1 .left)) in
+    let test = returned (c .before .before .before .before .before .before .before .before .before .is-readable .ensures) (not-false _ (c .before .before .before .before .before .before .before .before .if1 .left)) in
     with-last (length (a .xs .now) - 1) (length (a .xs .now)) _ _ _ _ _ (c .before .before .before .before .before .before .fill-sections .ensures) (entries (s .pre .1) test)
     (c .primitive .ensures ∙ ap (λ (k : EverywhereConstant). constant.primitive k (at (a .xs .now) (length (a .xs .now) - 1))) (c .before .before .new .ensures) ∙ last (s .pre .1) (length (a .xs .now) - 1) e)
     e
@@ -67,7 +67,7 @@ pub fill-spec : {M : Type 1} → statement M
 fill-spec =
     tie.close
     (tie.spec
-    is-modest-requires
+    is-readable-requires
     (λ c κs. search needs) (λ c. search needs)
     returns
     sub-last
