@@ -1,15 +1,13 @@
 -- What a build with a column leaves, by what the build without one does.
 use Prim.Native.Nat.{ℕ, _≤_}
-use mathlib.Core.Bool.{Bool, true, false, cond}
+use mathlib.Core.Bool.{Bool, true}
 use mathlib.Core.List.{List}
 use mathlib.Core.Path.{_≡_, refl, sym, ap, subst, _∙_}
 use borrow.Author.Tests.{le-ltb}
 use lib.Dec.{ltb}
 use lib.Ieee.{Float}
 use lib.ListN.{length}
-use Rattle.numbers.specs.Overlay.{overlay}
 use Rattle.refusal.specs.declared.Refusal.{Refusal}
-use Rattle.refusal.specs.declared.Refusal.the-variants.{BufferTooShort}
 use Rattle.refusal.specs.declared.Verdict.{Verdict}
 use Rattle.refusal.specs.declared.Verdict.the-variants as verdict
 use Rattle.table.specs.Buffers.{Buffers, Outcome, buffers, outcome, judged}
@@ -27,8 +25,8 @@ use Rattle.growth.specs.Growth.{grown}
 use Rattle.growth.specs.declared.growth.Carried.{Carried}
 use Rattle.growth.specs.declared.growth.Carried.the-variants as carried
 use Rattle.query.specs.Many.{manyVerdict}
-use Rattle.column.specs.Column.{Columned, columnAt, columned, columnBy, withColumn}
-use Rattle.column.specs.Steps.{lastVerdict, JustBuilt}
+use Rattle.column.specs.Column.{Columned, columned, withColumn}
+use Rattle.column.specs.Steps.{lastVerdict, columnOf, JustBuilt}
 use Rattle.column.proofs.Knots.{column-accepted}
 
 module _ (x : List Float) (b : Buffers) (column : List Float) where
@@ -38,19 +36,18 @@ module _ (x : List Float) (b : Buffers) (column : List Float) where
   too-short verdict.Accepted c new h = rw h
   too-short (verdict.Refused r) c new h = refl
 
-  -- a build that is refused leaves the column as it was
-  pub not-built : (o : Outcome Built) (k : Built) (n : List Float) (t : List ℕ) (s : List Float) (r : Refusal) → outcome k n t s ≡ o → k ≡ built.Refused r →
-      columned k n t s column ≡ withColumn x b column o
-  not-built o k n t s r e f =
-      ap (λ (a : Built). columned a n t s column) f ∙ ap (λ (a : Built). columnBy x b column a (buffers n t s)) (sym f) ∙ ap (withColumn x b column) e
+  -- a build that is refused leaves the column as it was, and with room for it a curve's column is written
+  columned-by : (k : Built) (n : List Float) (t : List ℕ) (s : List Float) → length x ≤ length column →
+      columned k n t s (columnOf x k t s column) ≡ withColumn x b column (outcome k n t s)
+  columned-by (built.Refused r) n t s room = refl
+  columned-by (built.Curve c) n t s room = rw (le-ltb (length column) (length x) room)
 
-  -- with room for it, a curve's column is written
-  pub built-with : (o : Outcome Built) (k : Built) (n : List Float) (t : List ℕ) (s filled : List Float) (c : Curve) → outcome k n t s ≡ o → k ≡ built.Curve c →
-      length x ≤ length column → filled ≡ overlay 0 (length x) (columnAt x c t s) column → columned (built.Curve c) n t s filled ≡ withColumn x b column o
-  built-with o k n t s filled c e f room g =
-      ap (λ (l : List Float). columned (built.Curve c) n t s l) g
-      ∙ sym (ap (λ (short : Bool). cond short (record { answer = built.Refused BufferTooShort; buffers = b; column = column }) (columned (built.Curve c) n t s (overlay 0 (length x) (columnAt x c t s) column))) (le-ltb (length column) (length x) room))
-      ∙ ap (λ (a : Built). columnBy x b column a (buffers n t s)) (sym f)
+  pub with-entries : (o : Outcome Built) (k answer : Built) (n : List Float) (t : List ℕ) (s filled : List Float) → outcome k n t s ≡ o → length x ≤ length column →
+      answer ≡ k → filled ≡ columnOf x k t s column → columned answer n t s filled ≡ withColumn x b column o
+  with-entries o k answer n t s filled e room f g =
+      ap (λ (a : Built). columned a n t s filled) f
+      ∙ ap (λ (l : List Float). columned k n t s l) g
+      ∙ columned-by k n t s room
       ∙ ap (withColumn x b column) e
 
   -- growth: what is carried is refused, or built with
@@ -66,11 +63,11 @@ module _ (x y : List Float) (method : ConvexMonotone) (hold : Bool) (seam : Seam
   abbrev frame : Frame
   frame = wholeFrame (length x) method hold seam
 
-  pub short-column : (column : List Float) (v : Verdict) → v ≡ buildVerdict x y method seam b → ltb (length column) (length x) ≡ true →
-      record { answer = lastVerdict v; buffers = b; column = column } ≡ withColumn x b column (buildOutcome x y method hold seam b)
+  pub short-column : (column : List Float) (answer : Built) → answer ≡ lastVerdict (buildVerdict x y method seam b) → ltb (length column) (length x) ≡ true →
+      record { answer = answer; buffers = b; column = column } ≡ withColumn x b column (buildOutcome x y method hold seam b)
   unfolding curveOf
-  short-column column v e h =
-      ap (λ (w : Verdict). record { answer = lastVerdict w; buffers = b; column = column }) e ∙ too-short x b column (buildVerdict x y method seam b) _ _ h
+  short-column column answer e h =
+      ap (λ (a : Built). record { answer = a; buffers = b; column = column }) e ∙ too-short x b column (buildVerdict x y method seam b) _ _ h
 
   -- a curve that was answered was accepted, and left its records
   pub accepted-build : (o : Outcome Built) (c : Curve) → o ≡ buildOutcome x y method hold seam b → o .answer ≡ built.Curve c → buildVerdict x y method seam b ≡ verdict.Accepted

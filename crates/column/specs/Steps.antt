@@ -7,6 +7,7 @@ use mathlib.Core.Path.{_≡_}
 use lib.Ieee.{Float}
 use lib.ListN.{length, getD, take, drop}
 use Rattle.numbers.specs.Every.{allBelow}
+use Rattle.numbers.specs.Overlay.{overlay}
 use Rattle.numbers.specs.Sizes.{slotCount}
 use Rattle.numbers.specs.Words.{_⊕_, _⊖_, _⊗_, zero, one, finite}
 use Rattle.section.specs.Section.{primitive}
@@ -28,11 +29,17 @@ use Rattle.curve.specs.Build.{buildOutcome}
 use Rattle.curve.specs.declared.curve.Built.{Built}
 use Rattle.curve.specs.declared.curve.Built.the-variants as built
 use Rattle.curve.specs.declared.curve.Curve.{Curve}
+use Rattle.column.specs.Column.{columnAt}
 
 -- what a check of the table says where its column is too short
 abbrev pub lastVerdict : Verdict → Built
 lastVerdict verdict.Accepted = built.Refused BufferTooShort
 lastVerdict (verdict.Refused r) = built.Refused r
+
+-- the column after a build: that of the curve, and after a refusal as it was
+abbrev pub columnOf : List Float → Built → List ℕ → List Float → List Float → List Float
+columnOf x (built.Refused r) tags slots column = column
+columnOf x (built.Curve c) tags slots column = overlay 0 (length x) (columnAt x c tags slots) column
 
 -- a table of ordinary size, by its settings alone
 abbrev pub modestTable : List Float → List Float → ConvexMonotone → Seam → Bool

@@ -1,5 +1,5 @@
-// The column of a curve just built. In a table of ordinary size a section that is not split gives back, at its own left knot, the total before it, which
-// the record before it holds: so most entries are read, and few are worked out.
+// The column of a curve just built. In a table of ordinary size a section gives back, at its own left knot, the total before it, which the record before it
+// holds, unless a split of it is unusual: so most entries are read, and few are worked out.
 use curve::curve::Curve;
 use numbers::SLOTS;
 use numbers::is_finite;
@@ -93,8 +93,8 @@ fn is_mixing(method: ConvexMonotone) -> bool
     (0.0 < method.quadraticity) & (method.quadraticity < 1.0)
 }
 
-// What a section starts from. The weight of one part alone is 1.0 or 0.0, and then that is the total itself; so the section needs not be asked how many it
-// has, which no processor could foresee.
+// What a section starts from: of two parts the total weighed against itself, which rounds. The weight of one part alone is 1.0 or 0.0, and that leaves a finite
+// total as it is; so no branch asks how many parts there are, which no processor could foresee.
 fn start_of(mixing: bool, weight: f64, total: f64) -> f64
     ensures { λ r. ⌜ r ≡ cond mixing (weighedBy weight total) total ⌝ }
 {
@@ -119,7 +119,7 @@ fn fill_starts(method: ConvexMonotone, slots: &[f64], sections: usize, column: &
 }
 
 // Lists the split ones of the sections from `from` to `to`, and answers how many they are. Each place is written, and counted only where its section is
-// split: no branch asks the tag, which no processor foresees.
+// split: the compiler adds the flag, so no branch depends on the tag.
 fn list_splits(tags: &[u16], from: usize, to: usize, places: &mut [u16; BLOCK]) -> usize
     requires { ⌜ (from ≤ to) × (to ≤ from + 64) × (to ≤ length (now tags)) × (to ≤ 4096) × (length (now places) ≡ 64) ⌝ }
     ensures { λ r. ⌜ Listed (now (tags .entry)) from to (now (places .exit)) r ⌝ }
@@ -134,7 +134,7 @@ fn list_splits(tags: &[u16], from: usize, to: usize, places: &mut [u16; BLOCK]) 
     count
 }
 
-// Asks the listed sections that are unusual for their own numbers; the other entries stay.
+// Asks those of the listed sections whose split is unusual for their own number; the other entries stay.
 fn ask_listed(
     xs: &[f64],
     tags: &[u16],
@@ -166,7 +166,7 @@ fn fill_block(xs: &[f64], tags: &[u16], slots: &[f64], from: usize, to: usize, c
     ask_listed(xs, tags, slots, &places, count, column);
 }
 
-// A split section that is unusual is asked for its own number; the other entries stay.
+// Sections with an unusual split are asked for their own number, block after block; the other entries stay.
 fn fill_splits(xs: &[f64], tags: &[u16], slots: &[f64], sections: usize, column: &mut [f64])
     requires { ⌜ (sections ≤ length (now xs)) × (sections ≤ length (now tags)) × (slotCount * sections ≤ length (now slots)) × (sections ≤ length (now column)) × (sections ≤ 4096) ⌝ }
     ensures { λ _. ⌜ now (column .exit) ≡ overlay 0 sections (askedAt (now (xs .entry)) (now (tags .entry)) (now (slots .entry)) (now (column .entry))) (now (column .entry)) ⌝ }

@@ -1,8 +1,10 @@
 //! Both sides measured in turn.
 //!
 //! A round is a sample of the library and then one of the original, so that a machine that slows down for a while slows both. A sample
-//! is taken over as many turns as are needed to be far above the clock's grain.
+//! is taken over as many turns as are needed to be far above the clock's grain. The rounds go through four places on the stack, since a
+//! function's time depends on how its frame lies to the lines of the cache, and the system puts the stack elsewhere in each run.
 
+use std::hint::black_box;
 use std::time::{Duration, Instant};
 
 use crate::clock;
@@ -28,6 +30,25 @@ pub struct Theirs {
 
 type Turn<'a> = &'a mut dyn FnMut();
 
+/// How many places on the stack there are, 16 bytes apart: after so many a line of the cache is full.
+const PLACES: usize = 4;
+
+/// Calls `turns` with the stack moved on to one of the places.
+fn at_place(place: usize, turns: &mut dyn FnMut()) {
+    #[inline(never)]
+    fn moved<const BYTES: usize>(turns: &mut dyn FnMut()) {
+        let room = black_box([0_u8; BYTES]);
+        turns();
+        black_box(&room);
+    }
+    match place % PLACES {
+        0 => moved::<16>(turns),
+        1 => moved::<32>(turns),
+        2 => moved::<48>(turns),
+        _ => moved::<64>(turns),
+    }
+}
+
 struct Side<'a> {
     turn: Turn<'a>,
     repetitions: u32,
@@ -42,22 +63,24 @@ impl<'a> Side<'a> {
             repetitions: 1,
             samples: Vec::new(),
         };
-        while (0..3).any(|_| side.time() < SAMPLE) {
+        while (0..3).any(|place| side.time(place) < SAMPLE) {
             side.repetitions *= 2;
         }
         side
     }
 
-    fn time(&mut self) -> Duration {
+    fn time(&mut self, place: usize) -> Duration {
         let start = clock::now();
-        for _ in 0..self.repetitions {
-            (self.turn)();
-        }
+        at_place(place, &mut || {
+            for _ in 0..self.repetitions {
+                (self.turn)();
+            }
+        });
         clock::now() - start
     }
 
-    fn sample(&mut self) {
-        let time = self.time().as_nanos() as f64;
+    fn sample(&mut self, place: usize) {
+        let time = self.time(place).as_nanos() as f64;
         self.samples.push(time / f64::from(self.repetitions));
     }
 }
@@ -76,9 +99,9 @@ pub fn measure(
     let start = Instant::now();
     let mut rounds = 0;
     while rounds < options.rounds && (rounds < FEWEST || start.elapsed() < options.row) {
-        ours.sample();
+        ours.sample(rounds);
         if let Some(theirs) = &mut theirs {
-            theirs.sample();
+            theirs.sample(rounds);
         }
         rounds += 1;
     }
