@@ -1,20 +1,20 @@
--- Entries of a column that are written one after another, or left as they are.
-use Prim.Native.Nat.{ℕ, _+_, _*_, _≤_, _<_}
+-- Entries of a column that are written one after another, and block before block.
+use Prim.Native.Nat as nat
+use Prim.Native.Nat.{ℕ, suc, _+_, _-_, _*_, _≤_, _<_}
 use native.Mathlib.Omega.{arith}
 use native.Mathlib.Nat.{zero-add}
 use native.Mathlib.Numerals.{add-one}
-use mathlib.Core.Bool.{Bool, true, false, cond, _&&_}
+use mathlib.Core.Bool.{Bool, true, false, cond}
 use mathlib.Core.List.{List}
 use mathlib.Core.Path.{_≡_, refl, sym, ap, _∙_}
 use lib.Ieee.{Float, nan}
 use lib.ListN.{length, set, getD}
 use Rattle.numbers.specs.Overlay.{overlay}
 use Rattle.numbers.specs.Sizes.{slotCount}
-use Rattle.numbers.proofs.Overlay.{overlay-more, overlay-same, overlay-again, overlay-inside}
+use Rattle.numbers.proofs.Overlay.{overlay-more, overlay-same, overlay-join, overlay-comm, overlay-again, overlay-inside}
 use Rattle.record.specs.Knots.{totalAfter}
 use Rattle.table.specs.Table.{at}
-use Rattle.table.specs.declared.method.ConvexMonotone.{ConvexMonotone}
-use Rattle.column.specs.Steps.{totalBefore, weighedBy, startBy, startAt, numberAt, asksAt, askedAt, entryAt}
+use Rattle.column.specs.Steps.{totalBefore, weighedBy, startBy, numberAt, asksAt, askedAt, entryBy}
 
 -- all entries but the last, and then that one
 pub with-last : (k n : ℕ) (f g : ℕ → Float) (old new : List Float) (v : Float) → new ≡ overlay 0 k f old → ((i : ℕ) → i < k → f i ≡ g i) → v ≡ g k → k + 1 ≡ n →
@@ -31,28 +31,39 @@ module _ (mixed : Bool) (slots : List Float) (i : ℕ) where
   pub carried : at slots (slotCount * i + totalAfter) ≡ totalBefore slots (i + 1)
   carried = rw (add-one i)
 
-module _ (method : ConvexMonotone) (x : List Float) (tags : List ℕ) (slots : List Float) (k : ℕ) (old starts : List Float) (e : starts ≡ overlay 0 k (startAt method slots) old) where
-  -- without positivity the starts are all
-  pub only-starts : method .«force_positive» ≡ false → starts ≡ overlay 0 k (entryAt method x tags slots) old
-  only-starts h =
-      e
-      ∙ overlay-same 0 k (startAt method slots) (entryAt method x tags slots) old
-      (λ i l. sym (ap (λ (b : Bool). cond (b && asksAt x tags slots i) (numberAt x tags slots i) (startAt method slots i)) h))
+-- the total that the record before holds
+pub held-before : (slots : List Float) (i : ℕ) → 0 < i → at slots (slotCount * (i - 1) + totalAfter) ≡ totalBefore slots i
+held-before slots nat.zero l = absurd (omega arith)
+held-before slots (suc i) l = ap (λ (k : ℕ). at slots (slotCount * k + totalAfter)) (omega arith)
 
-  -- with it the numbers of those that are asked stand over them
-  pub with-splits : (new : List Float) → method .«force_positive» ≡ true → k ≤ length old → new ≡ overlay 0 k (askedAt x tags slots starts) starts →
-      new ≡ overlay 0 k (entryAt method x tags slots) old
-  with-splits new h room f =
+-- a block under positivity: its starts, and the numbers of those that are asked over them
+module _ (mixed : Bool) (x : List Float) (tags : List ℕ) (slots : List Float) (from n : ℕ) (old starts : List Float) (e : starts ≡ overlay from n (λ k. startBy mixed slots (from + k)) old) where
+  pub with-splits : (new : List Float) → from + n ≤ length old → new ≡ overlay from n (λ k. askedAt x tags slots starts (from + k)) starts →
+      new ≡ overlay from n (λ k. entryBy mixed true x tags slots (from + k)) old
+  with-splits new room f =
       f
-      ∙ overlay-same 0 k (askedAt x tags slots starts) (entryAt method x tags slots) starts
-      (λ i l.
-      ap (λ (q : Float). cond (asksAt x tags slots i) (numberAt x tags slots i) q) (start-at i l)
-      ∙ sym (ap (λ (b : Bool). cond (b && asksAt x tags slots i) (numberAt x tags slots i) (startAt method slots i)) h))
-      ∙ ap (overlay 0 k (entryAt method x tags slots)) e
-      ∙ overlay-again 0 k (startAt method slots) (entryAt method x tags slots) old
+      ∙ overlay-same from n (λ k. askedAt x tags slots starts (from + k)) (λ k. entryBy mixed true x tags slots (from + k)) starts
+      (λ k l. ap (λ (q : Float). cond (asksAt x tags slots (from + k)) (numberAt x tags slots (from + k)) q) (start-at k l))
+      ∙ ap (overlay from n (λ k. entryBy mixed true x tags slots (from + k))) e
+      ∙ overlay-again from n (λ k. startBy mixed slots (from + k)) (λ k. entryBy mixed true x tags slots (from + k)) old
     where
-      start-at : (i : ℕ) → i < k → at starts i ≡ startAt method slots i
-      start-at i l =
-          ap (λ (s : List Float). at s i) e
-          ∙ ap (at (overlay 0 k (startAt method slots) old)) (sym (zero-add i))
-          ∙ overlay-inside 0 k (startAt method slots) old i nan l (omega (arith, room))
+      start-at : (k : ℕ) → k < n → at starts (from + k) ≡ startBy mixed slots (from + k)
+      start-at k l = ap (λ (s : List Float). at s (from + k)) e ∙ overlay-inside from n (λ k. startBy mixed slots (from + k)) old k nan l room
+
+-- a block before those that are written
+pub block-before : (f : ℕ → Float) (from to n : ℕ) (first old new : List Float) → from ≤ to → to ≤ n → old ≡ overlay to (n - to) (λ k. f (to + k)) first →
+    new ≡ overlay from (to - from) (λ k. f (from + k)) old → new ≡ overlay from (n - from) (λ k. f (from + k)) first
+block-before f from to n first old new order room e g =
+    g
+    ∙ ap (overlay from (to - from) (λ k. f (from + k))) e
+    ∙ sym (overlay-comm from (to - from) (λ k. f (from + k)) to (n - to) (λ k. f (to + k)) first (omega arith))
+    ∙ overlay-same to (n - to) (λ k. f (to + k)) (λ k. f (from + (to - from + k))) (overlay from (to - from) (λ k. f (from + k)) first) (λ k l. ap f (omega arith))
+    ∙ ap (λ (p : ℕ). overlay p (n - to) (λ k. f (from + (to - from + k))) (overlay from (to - from) (λ k. f (from + k)) first)) next
+    ∙ overlay-join from (to - from) (n - to) (λ k. f (from + k)) first
+    ∙ ap (λ (m : ℕ). overlay from m (λ k. f (from + k)) first) whole
+  where
+    next : to ≡ from + (to - from)
+    next = omega arith
+
+    whole : to - from + (n - to) ≡ n - from
+    whole = omega arith

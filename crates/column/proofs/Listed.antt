@@ -1,8 +1,7 @@
 -- The list of a block's split sections, and the entries once the unusual ones of a list were asked.
 use Prim.Native.Nat.{ℕ, _+_, _-_, _*_, _≤_, _<_}
 use native.Mathlib.Omega.{arith}
-use native.Mathlib.Nat.{zero-add}
-use mathlib.Core.Bool.{Bool, true, false, cond}
+use mathlib.Core.Bool.{Bool, true, false}
 use mathlib.Core.List.{List}
 use mathlib.Core.Logic.{inl, inr, ⊎-elim}
 use mathlib.Core.Path.{_≡_, refl, sym, ap, subst, _∙_}
@@ -14,7 +13,7 @@ use lib.ListN.{length, set, getD, length-set}
 use lib.Seq.{getD-set-same, getD-set-other, ext-getD}
 use Rattle.numbers.specs.Overlay.{overlay}
 use Rattle.numbers.specs.Sizes.{slotCount}
-use Rattle.numbers.proofs.Overlay.{length-overlay, overlay-same, overlay-inside, overlay-outside, overlay-join}
+use Rattle.numbers.proofs.Overlay.{length-overlay, overlay-inside, overlay-outside}
 use Rattle.numbers.proofs.Ways.{never, lt-or-le, of-each}
 use Rattle.record.specs.Tag.{splitTag}
 use Rattle.table.specs.Table.{at}
@@ -150,20 +149,3 @@ module _ (x : List Float) (tags : List ℕ) (slots : List Float) where
             ∙ sym (ap (askedAt x tags slots old) e)
             ∙ sym (overlay-inside from (to - from) f old (j - from) nan (omega arith) (omega arith))
             ∙ ap (at (overlay from (to - from) f old)) e
-
-  -- ---- block after block
-  pub block-more : (from to : ℕ) (first old new : List Float) → from ≤ to → old ≡ overlay 0 from (askedAt x tags slots first) first →
-      new ≡ overlay from (to - from) (λ k. askedAt x tags slots old (from + k)) old → new ≡ overlay 0 to (askedAt x tags slots first) first
-  block-more from to first old new order e g =
-      g
-      ∙ overlay-same from (to - from) (λ k. askedAt x tags slots old (from + k)) (λ k. askedAt x tags slots first (from + k)) old
-      (λ k l.
-      ap (cond (asksAt x tags slots (from + k)) (numberAt x tags slots (from + k)))
-      (ap (λ (s : List Float). at s (from + k)) e ∙ overlay-outside 0 from (askedAt x tags slots first) first (from + k) nan (inr (omega arith))))
-      ∙ ap (overlay from (to - from) (λ k. askedAt x tags slots first (from + k))) e
-      ∙ ap (λ (p : ℕ). overlay p (to - from) (λ k. askedAt x tags slots first (from + k)) (overlay 0 from (askedAt x tags slots first) first)) (sym (zero-add from))
-      ∙ overlay-join 0 from (to - from) (askedAt x tags slots first) first
-      ∙ ap (λ (n : ℕ). overlay 0 n (askedAt x tags slots first) first) whole
-    where
-      whole : from + (to - from) ≡ to
-      whole = omega arith

@@ -89,8 +89,11 @@ abbrev pub askedAt : List Float → List ℕ → List Float → List Float → �
 askedAt x tags slots column i = cond (asksAt x tags slots i) (numberAt x tags slots i) (at column i)
 
 -- both: the entry of section i
+abbrev pub entryBy : Bool → Bool → List Float → List ℕ → List Float → ℕ → Float
+entryBy mixed positive x tags slots i = cond (positive && asksAt x tags slots i) (numberAt x tags slots i) (startBy mixed slots i)
+
 abbrev pub entryAt : ConvexMonotone → List Float → List ℕ → List Float → ℕ → Float
-entryAt method x tags slots i = cond (method .«force_positive» && asksAt x tags slots i) (numberAt x tags slots i) (startAt method slots i)
+entryAt method x tags slots i = entryBy (mixing method) (method .«force_positive») x tags slots i
 
 -- ---- a list of sections
 -- where section i stands in it

@@ -21,7 +21,7 @@ ghost use Rattle.numbers.specs.Sizes.{slotCount};
 ghost use Rattle.choice.specs.Starts.{mixing};
 ghost use Rattle.assembly.specs.Starts.{priceModest, seamModest, periodModest};
 ghost use Rattle.column.specs.Column.{columnAt};
-ghost use Rattle.column.specs.Steps.{modestTable, readable, JustBuilt, weighedBy, startAt, askedAt, entryAt, Listed, Within, Asked};
+ghost use Rattle.column.specs.Steps.{modestTable, readable, JustBuilt, weighedBy, totalBefore, startBy, entryBy, entryAt, Listed, Within, Asked};
 
 // How many sections are listed at a time.
 const BLOCK: usize = 64;
@@ -104,17 +104,27 @@ fn start_of(mixing: bool, weight: f64, total: f64) -> f64
     total
 }
 
-// The entries of sections without an unusual split. Each total is carried from the record before.
-fn fill_starts(method: ConvexMonotone, slots: &[f64], sections: usize, column: &mut [f64])
-    requires { ⌜ (slotCount * sections ≤ length (now slots)) × (sections ≤ length (now column)) × (sections ≤ 4096) ⌝ }
-    ensures { λ _. ⌜ now (column .exit) ≡ overlay 0 sections (startAt method (now (slots .entry))) (now (column .entry)) ⌝ }
+// The total before section i.
+fn total_before(slots: &[f64], i: usize) -> f64
+    requires { ⌜ (slotCount * i ≤ length (now slots)) × (i ≤ 4096) ⌝ }
+    ensures { λ r. ⌜ r ≡ totalBefore (now (slots .entry)) i ⌝ }
 {
-    let mixing = is_mixing(method);
-    let mut total = 0.0;
-    for i in 0..sections {
-        let from = SLOTS * i;
-        column[i] = start_of(mixing, slots[from], total);
-        total = slots[from + TOTAL_AFTER];
+    if i == 0 {
+        return 0.0;
+    }
+    slots[SLOTS * (i - 1) + TOTAL_AFTER]
+}
+
+// The entries of the sections from `from` to `to`, as they are without an unusual split. Each total is carried from the record before.
+fn fill_starts(mixing: bool, slots: &[f64], from: usize, to: usize, column: &mut [f64])
+    requires { ⌜ (from ≤ to) × (slotCount * to ≤ length (now slots)) × (to ≤ length (now column)) × (to ≤ 4096) ⌝ }
+    ensures { λ _. ⌜ now (column .exit) ≡ overlay from (to - from) (λ k. startBy mixing (now (slots .entry)) (from + k)) (now (column .entry)) ⌝ }
+{
+    let mut total = total_before(slots, from);
+    for i in from..to {
+        let start = SLOTS * i;
+        column[i] = start_of(mixing, slots[start], total);
+        total = slots[start + TOTAL_AFTER];
     }
 }
 
@@ -156,33 +166,30 @@ fn ask_listed(
     }
 }
 
-// The entries of one block.
-fn fill_block(xs: &[f64], tags: &[u16], slots: &[f64], from: usize, to: usize, column: &mut [f64])
+// The entries of one block. Without positivity no section is split.
+fn fill_block(
+    xs: &[f64],
+    mixing: bool,
+    positive: bool,
+    tags: &[u16],
+    slots: &[f64],
+    from: usize,
+    to: usize,
+    column: &mut [f64],
+)
     requires { ⌜ (from ≤ to) × (to ≤ from + 64) × (to ≤ length (now xs)) × (to ≤ length (now tags)) × (slotCount * to ≤ length (now slots)) × (to ≤ length (now column)) × (to ≤ 4096) ⌝ }
-    ensures { λ _. ⌜ now (column .exit) ≡ overlay from (to - from) (λ k. askedAt (now (xs .entry)) (now (tags .entry)) (now (slots .entry)) (now (column .entry)) (from + k)) (now (column .entry)) ⌝ }
+    ensures { λ _. ⌜ now (column .exit) ≡ overlay from (to - from) (λ k. entryBy mixing positive (now (xs .entry)) (now (tags .entry)) (now (slots .entry)) (from + k)) (now (column .entry)) ⌝ }
 {
+    fill_starts(mixing, slots, from, to, column);
+    if !positive {
+        return;
+    }
     let mut places = [0; BLOCK];
     let count = list_splits(tags, from, to, &mut places);
     ask_listed(xs, tags, slots, &places, count, column);
 }
 
-// Sections with an unusual split are asked for their own number, block after block; the other entries stay.
-fn fill_splits(xs: &[f64], tags: &[u16], slots: &[f64], sections: usize, column: &mut [f64])
-    requires { ⌜ (sections ≤ length (now xs)) × (sections ≤ length (now tags)) × (slotCount * sections ≤ length (now slots)) × (sections ≤ length (now column)) × (sections ≤ 4096) ⌝ }
-    ensures { λ _. ⌜ now (column .exit) ≡ overlay 0 sections (askedAt (now (xs .entry)) (now (tags .entry)) (now (slots .entry)) (now (column .entry))) (now (column .entry)) ⌝ }
-{
-    let mut from = 0;
-    while from < sections {
-        let mut to = sections;
-        if sections - from > BLOCK {
-            to = from + BLOCK;
-        }
-        fill_block(xs, tags, slots, from, to, column);
-        from = to;
-    }
-}
-
-// The entries of all sections. Without positivity none is split.
+// The entries of all sections, block after block. The last block comes first: its records were written last, and are nearest at hand.
 fn fill_sections(
     xs: &[f64],
     method: ConvexMonotone,
@@ -194,11 +201,17 @@ fn fill_sections(
     requires { ⌜ (sections ≤ length (now xs)) × (sections ≤ length (now tags)) × (slotCount * sections ≤ length (now slots)) × (sections ≤ length (now column)) × (sections ≤ 4096) ⌝ }
     ensures { λ _. ⌜ now (column .exit) ≡ overlay 0 sections (entryAt method (now (xs .entry)) (now (tags .entry)) (now (slots .entry))) (now (column .entry)) ⌝ }
 {
-    fill_starts(method, slots, sections, column);
-    if !method.force_positive {
-        return;
+    let mixing = is_mixing(method);
+    let positive = method.force_positive;
+    let mut to = sections;
+    while 0 < to {
+        let mut from = 0;
+        if to > BLOCK {
+            from = to - BLOCK;
+        }
+        fill_block(xs, mixing, positive, tags, slots, from, to, column);
+        to = from;
     }
-    fill_splits(xs, tags, slots, sections, column);
 }
 
 // Writes the column of a curve that was just built of this table. At the last knot the tail answers.
