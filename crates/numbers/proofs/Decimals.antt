@@ -4,7 +4,7 @@ use mathlib.Core.Path.{_≡_, refl}
 use Prim.Native.Nat.{ℕ, _^_}
 use lib.Ieee.{Float, binary64, ofBits, round}
 use lib.Ieee.Exact.{HasValue}
-use Rattle.numbers.specs.Words.{zero, half, one, threeHalves, two, three, four, six, twentyFour, thirtySix, tiny, narrow, leastRatio, mostRatio, threeTenths, sevenTenths}
+use Rattle.numbers.specs.Words.{zero, half, one, threeHalves, two, three, four, six, twentyFour, thirtySix, tiny, narrow, leastRatio, mostRatio, mostSize, leastDivisor, threeTenths, sevenTenths}
 
 -- x is + a / c, exactly
 abbrev Worth : Float → ℕ → ℕ → Type 0
@@ -15,9 +15,9 @@ pub exact : Worth zero 0 1 × Worth half 1 2 × Worth one 1 1 × Worth threeHalv
 unfolding ofBits
 exact = ((refl, refl), (refl, refl), (refl, refl), (refl, refl), (refl, refl), (refl, refl), (refl, refl), (refl, refl), (refl, refl), (refl, refl))
 
-pub powers : Worth leastRatio 1 (2 ^ 60) × Worth mostRatio (2 ^ 60) 1
+pub powers : Worth leastRatio 1 (2 ^ 60) × Worth mostRatio (2 ^ 60) 1 × Worth leastDivisor 1 (2 ^ 40) × Worth mostSize (2 ^ 80) 1
 unfolding ofBits
-powers = ((refl, refl), (refl, refl))
+powers = ((refl, refl), (refl, refl), (refl, refl), (refl, refl))
 
 -- x is a / c rounded to the nearest binary64 value
 abbrev Nearest : Float → ℕ → ℕ → Type 0

@@ -1,4 +1,4 @@
--- The laws of `allBelow`: what a loop shows that leaves at the first place where the test fails.
+-- The laws of `allBelow`: what a loop shows that leaves at the first place where the test fails, or that joins every test to those before.
 use Prim.Native.Nat.{ℕ, zero, suc, _+_, _<_}
 use native.Mathlib.Omega.{arith}
 use native.Mathlib.Nat.{eq-or-lt-of-le, le-of-suc-le-suc}
@@ -27,6 +27,10 @@ all-none f = refl
 pub all-more : (n : ℕ) (f : ℕ → Bool) → allBelow n f ≡ true → f n ≡ true → allBelow (n + 1) f ≡ true
 unfolding allBelow
 all-more n f h e = rw (add-one n, e, h)
+
+pub all-and : (n : ℕ) (f : ℕ → Bool) (a b : Bool) → a ≡ f n → b ≡ allBelow n f → (a && b) ≡ allBelow (n + 1) f
+unfolding allBelow
+all-and n f a b e h = rw (e, h, add-one n)
 
 pub all-every : (n : ℕ) (f : ℕ → Bool) → ((k : ℕ) → k < n → f k ≡ true) → allBelow n f ≡ true
 unfolding allBelow

@@ -18,5 +18,6 @@ pub mod Monotone
 pub mod Low
 pub mod Ratios
 pub mod Sided
+pub mod Ordinary
 pub mod Zeros
 pub mod Totals

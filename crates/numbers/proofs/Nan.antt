@@ -1,11 +1,12 @@
 -- The one NaN: the patterns that are read as it, and the number that differs from itself.
 use Prim.Native.Nat.{ℕ, _%_, _^_, _*_, _<_, _≤_}
-use mathlib.Core.Bool.{true, false, not}
-use mathlib.Core.Path.{_≡_, refl, sym, _∙_}
+use mathlib.Core.Bool.{Bool, true, false, not}
+use mathlib.Core.Path.{_≡_, refl, sym, ap, _∙_}
 use lib.Dec.{T}
-use borrow.Author.Tests.{lt-ltb, le-ltb}
-use lib.Ieee.{Float, nan, inf, fin, binary64, ne, eq, isNan, nanBits, ofBits}
+use borrow.Author.Tests.{lt-ltb, le-ltb, eq-eqb}
+use lib.Ieee.{Float, nan, inf, fin, binary64, ne, eq, level, up, down, isNan, nanBits, ofBits}
 use lib.Ieee.Bits.{nanBits-is, nanBits-above}
+use Rattle.numbers.specs.Words.{finite}
 use Rattle.numbers.proofs.Ways.{never}
 
 -- a pattern above that of infinity, its sign aside
@@ -30,3 +31,14 @@ unfolding isNan ne eq
 same-number nan h = never refl h
 same-number (inf s) h = tt
 same-number (fin s m e) h = tt
+
+self-equal : (s : Bool) (m : ℕ) → level s m s m ≡ true
+self-equal true m = rw (eq-eqb m m refl)
+self-equal false m = rw (eq-eqb m m refl)
+
+-- a finite number is no NaN
+pub not-nan : (q : Float) → finite q ≡ true → ne q q ≡ false
+unfolding finite ne eq
+not-nan nan h = never h refl
+not-nan (inf s) h = never h refl
+not-nan (fin s m e) h = ap not (self-equal s (m * up e * down e))

@@ -1,4 +1,5 @@
 pub mod Words
+pub mod Marks
 pub mod Overlay
 pub mod Every
 pub mod Sizes

@@ -1,7 +1,7 @@
 -- The words in which every formula of the library is written: Rust's operators on f64, and the numbers that the formulas name.
 -- A number is an IEEE 754 binary64 value with one NaN, so two equal numbers are the same bit for bit, any NaN matching any NaN.
 use mathlib.Core.Bool.{Bool, true, false, _&&_}
-use lib.Ieee.{Float, nan, inf, fin, binary64, add, sub, mul, div, le, ofBits}
+use lib.Ieee.{Float, nan, inf, fin, binary64, add, sub, mul, div, neg, le, ofBits}
 
 -- one rounding each
 abbrev pub _⊕_ : Float → Float → Float
@@ -68,6 +68,19 @@ mostRatio = ofBits binary64 0x43b0_0000_0000_0000
 
 abbrev pub ordinaryRatio : Float → Bool
 ordinaryRatio r = le leastRatio r && le r mostRatio
+
+-- our own: 2 ^ 80 and 2 ^ -40. Numbers of ordinary size are not larger than the one, and ordinary divisors not smaller than the other.
+abbrev pub mostSize : Float
+mostSize = ofBits binary64 0x44f0_0000_0000_0000
+
+abbrev pub leastDivisor : Float
+leastDivisor = ofBits binary64 0x3d70_0000_0000_0000
+
+abbrev pub ordinarySize : Float → Bool
+ordinarySize x = le (neg mostSize) x && le x mostSize
+
+abbrev pub ordinaryDivisor : Float → Bool
+ordinaryDivisor x = le leastDivisor x
 
 -- 0.3 and 0.7, the defaults of the method
 abbrev pub threeTenths : Float

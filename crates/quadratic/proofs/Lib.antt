@@ -8,3 +8,4 @@ pub mod Beyond
 pub mod Safe
 pub mod Finite
 pub mod Starts
+pub mod Ordinary

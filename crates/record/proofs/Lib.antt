@@ -8,3 +8,4 @@ pub mod Cells
 pub mod InRange
 pub mod Tags
 pub mod Named
+pub mod FiniteAnswers

@@ -5,6 +5,7 @@ use mathlib.Core.List.{List}
 use lib.Ieee.{Float}
 use lib.ListN.{length}
 use borrow.Author.Tests.{lt-ltb, le-ltb}
+use Rattle.numbers.specs.Marks.{mark}
 use Rattle.numbers.specs.Words.{_⊕_, _⊖_, _⊗_, one}
 use Rattle.section.specs.declared.quadratic_part.QuadraticPart.{QuadraticPart}
 use Rattle.section.specs.declared.quadratic_part.QuadraticPart.the-variants as quadratic
@@ -69,7 +70,7 @@ module _ (f : Section → Float) (weighs : Weighs f) (w : Float) where
   together-answers (maybeQuadratic.Part p) maybeOther.Unknown = refl
   together-answers (maybeQuadratic.Part p) (maybeOther.Constant s) = refl
   together-answers (maybeQuadratic.Part p) (maybeOther.Gradient s) = refl
-  together-answers (maybeQuadratic.Part p) (maybeOther.Convex c) = ap answer.Number (weighs p c w)
+  together-answers (maybeQuadratic.Part p) (maybeOther.Convex c) = ap (λ (v : Float). answer.Number (mark v)) (weighs p c w)
 
 -- the whole record: too few slots, or the two parts that its tag names
 module _ (f : Section → Float) (tag : ℕ) (s : List Float) where

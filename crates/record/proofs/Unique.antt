@@ -7,6 +7,7 @@ use Rattle.record.proofs.legality.legal_in.Reads as legal-in
 use Rattle.record.proofs.number.Answer.or_zero.Reads as answer-or-zero
 use Rattle.record.proofs.number.value_in.Reads as value-in
 use Rattle.record.proofs.number.primitive_in.Reads as primitive-in
+use Rattle.record.proofs.ordinary.is_ordinary.Reads as is-ordinary
 use Rattle.record.proofs.reader.record_verdict.Reads as record-verdict
 use Rattle.record.proofs.reader.record_slots.Reads as record-slots
 use Rattle.record.proofs.reading.read_section.Reads as read-section
@@ -29,6 +30,9 @@ value-in-unique κ a r₁ r₂ s t p q = p ∙ sym q
 
 pub primitive-in-unique : OneAnswer primitive-in.Post
 primitive-in-unique κ a r₁ r₂ s t p q = p ∙ sym q
+
+pub is-ordinary-unique : OneAnswer is-ordinary.Post
+is-ordinary-unique κ a r₁ r₂ s t p q = p ∙ sym q
 
 pub record-verdict-unique : OneAnswer record-verdict.Post
 record-verdict-unique κ a r₁ r₂ s t p q = p ∙ sym q

@@ -7,3 +7,4 @@ pub mod Knots
 pub mod Reader
 pub mod Steps
 pub mod Unusual
+pub mod Ordinary

@@ -1,5 +1,6 @@
 -- Steps of the code, which only the contracts of private functions cite.
 use lib.Ieee.{Float}
+use Rattle.numbers.specs.Marks.{mark}
 use Rattle.numbers.specs.Words.{_⊕_, _⊖_, _⊗_, one}
 use Rattle.section.specs.declared.section.Section.{Section}
 use Rattle.section.specs.declared.section.Section.the-variants as section
@@ -33,9 +34,9 @@ together w part.Unknown o = answer.Illegal
 together w (part.Alone p) o = answer.Illegal
 together w part.Absent part.Absent = answer.Illegal
 together w part.Absent part.Unknown = answer.Illegal
-together w part.Absent (part.Alone o) = answer.Number o
-together w part.Absent (part.Shared o) = answer.Number o
-together w (part.Shared p) part.Absent = answer.Number p
+together w part.Absent (part.Alone o) = answer.Number (mark o)
+together w part.Absent (part.Shared o) = answer.Number (mark o)
+together w (part.Shared p) part.Absent = answer.Number (mark p)
 together w (part.Shared p) part.Unknown = answer.Illegal
 together w (part.Shared p) (part.Alone o) = answer.Illegal
-together w (part.Shared p) (part.Shared o) = answer.Number (w ⊗ p ⊕ (one ⊖ w) ⊗ o)
+together w (part.Shared p) (part.Shared o) = answer.Number (mark (w ⊗ p ⊕ (one ⊖ w) ⊗ o))

@@ -12,6 +12,8 @@ use crate::tag::QuadraticKind;
 use crate::tag::other_named;
 use crate::tag::quadratic_named;
 use numbers::FIELDS;
+use numbers::Marked;
+use numbers::mark;
 ghost use mathlib.Core.Path.{_≡_};
 ghost use Prim.Native.Nat.{_≤_};
 ghost use lib.ListN.{length};
@@ -21,19 +23,19 @@ ghost use Rattle.record.specs.Reading.{quadraticFrom, otherFrom, readSec
 ghost use Rattle.record.specs.Number.{answerIn, orZero};
 ghost use Rattle.record.specs.Steps.{quadraticNumber, otherNumber, together};
 
-// What a record answers.
+// What a record answers: a number with its mark, where it is legal.
 pub enum Answer {
-    Number(f64),
+    Number(Marked),
     Illegal,
 }
 
 impl Answer {
-    // The number, and +0.0 where there is none.
+    // The number, finite or not, and +0.0 where there is none.
     pub fn or_zero(self) -> f64
         ensures { λ r. ⌜ r ≡ orZero self ⌝ }
     {
         match self {
-            Answer::Number(number) => number,
+            Answer::Number(marked) => marked.number,
             Answer::Illegal => 0.0,
         }
     }
@@ -120,14 +122,14 @@ fn together(weight: f64, quadratic: Part, other: Part) -> Answer
         Part::Absent => match other {
             Part::Absent => Answer::Illegal,
             Part::Unknown => Answer::Illegal,
-            Part::Alone(o) => Answer::Number(o),
-            Part::Shared(o) => Answer::Number(o),
+            Part::Alone(o) => Answer::Number(mark(o)),
+            Part::Shared(o) => Answer::Number(mark(o)),
         },
         Part::Shared(p) => match other {
-            Part::Absent => Answer::Number(p),
+            Part::Absent => Answer::Number(mark(p)),
             Part::Unknown => Answer::Illegal,
             Part::Alone(_) => Answer::Illegal,
-            Part::Shared(o) => Answer::Number(weight * p + (1.0 - weight) * o),
+            Part::Shared(o) => Answer::Number(mark(weight * p + (1.0 - weight) * o)),
         },
     }
 }

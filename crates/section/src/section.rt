@@ -1,4 +1,4 @@
-// One section of a curve: one choice among the nine kinds.
+// One section of a curve: one choice among the nine kinds. Its price and its total come with the mark whether they are finite.
 use crate::combination::Combination;
 use crate::constant_grad::ConstantGrad;
 use crate::everywhere_constant::EverywhereConstant;
@@ -6,9 +6,12 @@ use convex::convex_monotone2::ConvexMonotone2;
 use convex::convex_monotone3::ConvexMonotone3;
 use convex::convex_monotone4::ConvexMonotone4;
 use convex::convex_monotone4_min::ConvexMonotone4Min;
+use numbers::Marked;
+use numbers::mark;
 use quadratic::quadratic::Quadratic;
 use quadratic::quadratic_min::QuadraticMin;
 ghost use mathlib.Core.Path.{_≡_};
+ghost use Rattle.numbers.specs.Marks.{mark};
 ghost use Rattle.section.specs.Section.{value, primitive, «f_next»};
 
 pub enum Section {
@@ -24,7 +27,8 @@ pub enum Section {
 }
 
 impl Section {
-    pub fn value(self, x: f64) -> f64
+    // What the formula gives, with no mark yet.
+    fn formula_value(self, x: f64) -> f64
         ensures { λ r. ⌜ r ≡ value self x ⌝ }
     {
         match self {
@@ -40,7 +44,7 @@ impl Section {
         }
     }
 
-    pub fn primitive(self, x: f64) -> f64
+    fn formula_primitive(self, x: f64) -> f64
         ensures { λ r. ⌜ r ≡ primitive self x ⌝ }
     {
         match self {
@@ -54,6 +58,18 @@ impl Section {
             Section::QuadraticMin(s) => s.primitive(x),
             Section::Combination(s) => s.primitive(x),
         }
+    }
+
+    pub fn value(self, x: f64) -> Marked
+        ensures { λ r. ⌜ r ≡ mark (value self x) ⌝ }
+    {
+        mark(self.formula_value(x))
+    }
+
+    pub fn primitive(self, x: f64) -> Marked
+        ensures { λ r. ⌜ r ≡ mark (primitive self x) ⌝ }
+    {
+        mark(self.formula_primitive(x))
     }
 
     pub fn f_next(self) -> f64
