@@ -2,6 +2,7 @@ pub mod Alone
 pub mod Covering
 pub mod Enough
 pub mod Room
+pub mod Reach
 pub mod Sides
 pub mod ByParts
 pub mod Unique

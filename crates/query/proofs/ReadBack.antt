@@ -7,6 +7,7 @@ use mathlib.Core.Path.{_≡_, refl, sym, ap}
 use borrow.Author.Tests.{le-ltb}
 use lib.Ieee.{Float, le, ne}
 use lib.ListN.{length}
+use Rattle.numbers.specs.Marks.{mark}
 use Rattle.numbers.specs.Sizes.{slotCount}
 use Rattle.numbers.proofs.Overlay.{length-overlay}
 use Rattle.section.specs.declared.section.Section.{Section}
@@ -86,5 +87,5 @@ module _ (x y : List Float) (frame : Frame) where
         sym (found-here _ (answering curve q) _ ok (covering-read-back curve (b .tags) (b .slots) q (s .low) (r .in-tags) (r .in-slots)))
 
     -- whatever is asked of a built curve, its value or its total at the query, is what that section gives
-    pub asked-of-built : (f : Section → Float) → ask f (coveredAt x curve (after 0 x y frame b .tags) (after 0 x y frame b .slots) q) ≡ query-answer.Number (f (answering curve q))
+    pub asked-of-built : (f : Section → Float) → ask f (coveredAt x curve (after 0 x y frame b .tags) (after 0 x y frame b .slots) q) ≡ query-answer.Number (mark (f (answering curve q)))
     asked-of-built f = ap (λ (k : Covered). ask f k) query-of-built

@@ -4,6 +4,9 @@ use denote.Ref.{now}
 use Rattle.numbers.specs.OneOutcome.{OneAnswer, OneOutcome, pair}
 use Rattle.query.proofs.answer.curve_with.Reads as curve-with
 use Rattle.query.proofs.answer.QueryAnswer.in_numbers.Reads as query-answer-in-numbers
+use Rattle.query.proofs.answer.QueryAnswer.verdict.Reads as query-answer-verdict
+use Rattle.query.proofs.answer.QueryAnswer.number.Reads as query-answer-number
+use Rattle.query.proofs.answer.ManyAnswer.in_numbers.Reads as many-answer-in-numbers
 use Rattle.query.proofs.answer.curve_verdict.Reads as curve-verdict
 use Rattle.query.proofs.answer.derivative.Reads as derivative
 use Rattle.query.proofs.many.values.Reads as values
@@ -19,6 +22,15 @@ curve-with-unique κ a r₁ r₂ s t p q = p ∙ sym q
 
 pub query-answer-in-numbers-unique : OneAnswer query-answer-in-numbers.Post
 query-answer-in-numbers-unique κ a r₁ r₂ s t p q = p ∙ sym q
+
+pub query-answer-verdict-unique : OneAnswer query-answer-verdict.Post
+query-answer-verdict-unique κ a r₁ r₂ s t p q = p ∙ sym q
+
+pub query-answer-number-unique : OneAnswer query-answer-number.Post
+query-answer-number-unique κ a r₁ r₂ s t p q = p ∙ sym q
+
+pub many-answer-in-numbers-unique : OneAnswer many-answer-in-numbers.Post
+many-answer-in-numbers-unique κ a r₁ r₂ s t p q = p ∙ sym q
 
 pub derivative-unique : OneAnswer derivative.Post
 derivative-unique κ a r₁ r₂ s t p q = p ∙ sym q

@@ -5,6 +5,7 @@ use mathlib.Core.List.{List}
 use mathlib.Core.Path.{_≡_, refl, ap, _∙_}
 use lib.Ieee.{Float, ne}
 use lib.ListN.{length}
+use Rattle.numbers.specs.Marks.{mark}
 use Rattle.section.specs.declared.section.Section.{Section}
 use Rattle.refusal.specs.declared.Verdict.the-variants as verdict
 use Rattle.table.specs.Buffers.{Buffers, Outcome}
@@ -44,7 +45,7 @@ module _ (x y : List Float) (method : ConvexMonotone) (hold : Bool) (seam : Seam
   asked f allow q o = ask f (coveredAt x (withExtrapolation curve allow) (o .buffers .tags) (o .buffers .slots) q)
 
   pub built-asked : (f : Section → Float) (allow : Bool) (q : Float) → ne q q ≡ false → outside x (withExtrapolation curve allow) q ≡ false →
-      asked f allow q (buildOutcome x y method hold seam b) ≡ query-answer.Number (f (answering x y frame (withExtrapolation curve allow) q))
+      asked f allow q (buildOutcome x y method hold seam b) ≡ query-answer.Number (mark (f (answering x y frame (withExtrapolation curve allow) q)))
   built-asked f allow q n o = ap (asked f allow q) built-curve ∙ asked-of-built x y frame method seam b (withExtrapolation curve allow) q accepted n o f
 
   -- a grown curve is built with the seam that it carries
@@ -53,5 +54,5 @@ module _ (x y : List Float) (method : ConvexMonotone) (hold : Bool) (seam : Seam
   grown-curve k g = ap (λ (c : Carried). grown c b (λ s. buildOutcome x y method hold s b)) g ∙ built-curve
 
   pub grown-asked : (k : Carried) (f : Section → Float) (allow : Bool) (q : Float) → k ≡ carried.Seam seam → ne q q ≡ false → outside x (withExtrapolation curve allow) q ≡ false →
-      asked f allow q (grown k b (λ s. buildOutcome x y method hold s b)) ≡ query-answer.Number (f (answering x y frame (withExtrapolation curve allow) q))
+      asked f allow q (grown k b (λ s. buildOutcome x y method hold s b)) ≡ query-answer.Number (mark (f (answering x y frame (withExtrapolation curve allow) q)))
   grown-asked k f allow q g n o = ap (asked f allow q) (grown-curve k g) ∙ asked-of-built x y frame method seam b (withExtrapolation curve allow) q accepted n o f

@@ -1,4 +1,4 @@
--- 01, Queries, settings and growth
+-- 01, Queries, settings and growth. 02, K7: an answer comes with its mark.
 use Prim.Native.Nat as nat
 use Prim.Native.Nat.{ℕ, suc, _+_, _-_, _*_}
 use mathlib.Core.Bool.{Bool, false, cond, not, _&&_, _||_}
@@ -6,6 +6,7 @@ use mathlib.Core.List.{List, [], _∷_, _++_}
 use lib.Dec.{ltb}
 use lib.Ieee.{Float, lt, le, ne}
 use lib.ListN.{length}
+use Rattle.numbers.specs.Marks.{mark}
 use Rattle.numbers.specs.Words.{zero}
 use Rattle.section.specs.EverywhereConstant as constant
 use Rattle.section.specs.declared.section.Section.{Section}
@@ -15,7 +16,7 @@ use Rattle.refusal.specs.Refusal.{Test, _⇒_, first, number}
 use Rattle.numbers.specs.Sizes.{slotCount}
 use Rattle.record.specs.declared.reading.Found.{Found}
 use Rattle.record.specs.declared.reading.Found.the-variants as found
-use Rattle.refusal.specs.declared.Refusal.the-variants.{TooFewPoints, KnotNotFinite, KnotsNotRising, TooManyPoints, BufferTooShort, QueryNotANumber, QueryOutside, RecordNotLegal}
+use Rattle.refusal.specs.declared.Refusal.the-variants.{TooFewPoints, KnotNotFinite, KnotsNotRising, TooManyPoints, BufferTooShort, QueryNotANumber, QueryOutside, RecordNotLegal, NotFinite}
 use Rattle.refusal.specs.declared.Verdict.{Verdict}
 use Rattle.refusal.specs.declared.Verdict.the-variants as verdict
 use Rattle.table.specs.Check.{allFinite, rising}
@@ -79,12 +80,25 @@ coveredOf (verdict.Refused r) f = covered.Refused r
 abbrev pub coveredAt : List Float → Curve → List ℕ → List Float → Float → Covered
 coveredAt x curve tags slots q = coveredOf (first (queryTests x curve (length tags) (length slots) q)) (covering x curve tags slots q)
 
--- what the section that answers gives, or the refusal
+-- what the section that answers gives, with its mark, or the refusal
 abbrev pub ask : (Section → Float) → Covered → QueryAnswer
-ask f (covered.Section s) = query-answer.Number (f s)
+ask f (covered.Section s) = query-answer.Number (mark (f s))
 ask f (covered.Refused r) = query-answer.Refused r
 
+-- the number by its bits, finite or not
+abbrev pub numberIn : QueryAnswer → Float
+numberIn (query-answer.Number m) = m .number
+numberIn (query-answer.Refused r) = zero
+
+-- what refuses an answer: 21 comes after all other refusals
+abbrev pub verdictIn : QueryAnswer → Verdict
+verdictIn (query-answer.Number m) = cond (m .finite) verdict.Accepted (verdict.Refused NotFinite)
+verdictIn (query-answer.Refused r) = verdict.Refused r
+
 -- in the documents' numbers: the refusal's, or 0, with the answer
+abbrev pub answerBy : Verdict → Float → AnswerInNumbers
+answerBy verdict.Accepted v = record { refusal = 0; answer = v }
+answerBy (verdict.Refused r) v = record { refusal = number r; answer = zero }
+
 abbrev pub answerInNumbers : QueryAnswer → AnswerInNumbers
-answerInNumbers (query-answer.Number v) = record { refusal = 0; answer = v }
-answerInNumbers (query-answer.Refused r) = record { refusal = number r; answer = zero }
+answerInNumbers k = answerBy (verdictIn k) (numberIn k)

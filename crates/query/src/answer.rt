@@ -1,6 +1,7 @@
 // What a query is refused for, and what it is answered. `single` and `many` answer it.
 use assembly::sections::Tail;
 use curve::curve::Curve;
+use numbers::Marked;
 use numbers::SLOTS;
 use refusal::Refusal;
 use refusal::Verdict;
@@ -12,7 +13,8 @@ ghost use Prim.Native.Nat.{_-_, _*_, _≤_};
 ghost use lib.Dec.{ltb};
 ghost use Rattle.refusal.specs.Refusal.{first};
 ghost use Rattle.numbers.specs.Sizes.{slotCount};
-ghost use Rattle.query.specs.Query.{outside, curveTests, pointTests, queryTests, answerInNumbers, curveWith};
+ghost use Rattle.query.specs.Many.{manyInNumbers};
+ghost use Rattle.query.specs.Query.{outside, curveTests, pointTests, queryTests, numberIn, verdictIn, answerInNumbers, curveWith};
 
 // The section that answers a query, or why there is none. Only the definitions speak of it: the code goes from the slots of a record straight to the number.
 pub enum Covered {
@@ -20,16 +22,30 @@ pub enum Covered {
     Refused(Refusal),
 }
 
-// What a query answers.
+// What a query answers: a number with the mark whether it is finite, or the first refusal of those that come before that.
 pub enum QueryAnswer {
-    Number(f64),
+    Number(Marked),
     Refused(Refusal),
 }
 
-// The same in numbers: the refusal's, or 0, and the answer, which is +0.0 where it is refused.
+// The same in numbers: the refusal's, or 0, and the answer, which is +0.0 where it is refused. A number that is not finite is refused here.
 pub struct AnswerInNumbers {
     pub refusal: u8,
     pub answer: f64,
+}
+
+// What many queries are answered: every number, or none, for a fault of all or for the first query that is refused, counted from 0.
+pub enum ManyAnswer {
+    Answered,
+    Refused(Refusal),
+    RefusedAt(Refusal, usize),
+}
+
+// The same in numbers: the refusal's, or 0, and which query was refused first, or how many there are where none was.
+#[repr(C)]
+pub struct ManyInNumbers {
+    pub refusal: u8,
+    pub query: usize,
 }
 
 // What a query reads of a curve beside its knots and records. It asks neither how many sections there are nor whether the last is held.
@@ -46,14 +62,63 @@ pub fn curve_with(value: f64, total: f64, from: f64, extrapolates: bool) -> Curv
 }
 
 impl QueryAnswer {
+    // What refuses it: a number that is not finite is refused too, after all else.
+    pub fn verdict(self) -> Verdict
+        ensures { λ r. ⌜ r ≡ verdictIn self ⌝ }
+    {
+        match self {
+            QueryAnswer::Number(marked) => {
+                if marked.finite {
+                    return Verdict::Accepted;
+                }
+                Verdict::Refused(Refusal::NotFinite)
+            }
+            QueryAnswer::Refused(refusal) => Verdict::Refused(refusal),
+        }
+    }
+
+    // The number by its bits, finite or not, and +0.0 where there is none.
+    pub fn number(self) -> f64
+        ensures { λ r. ⌜ r ≡ numberIn self ⌝ }
+    {
+        match self {
+            QueryAnswer::Number(marked) => marked.number,
+            QueryAnswer::Refused(_) => 0.0,
+        }
+    }
+
     pub fn in_numbers(self) -> AnswerInNumbers
         ensures { λ r. ⌜ r ≡ answerInNumbers self ⌝ }
     {
-        match self {
-            QueryAnswer::Number(answer) => AnswerInNumbers { refusal: 0, answer },
-            QueryAnswer::Refused(refusal) => AnswerInNumbers {
+        match self.verdict() {
+            Verdict::Accepted => AnswerInNumbers {
+                refusal: 0,
+                answer: self.number(),
+            },
+            Verdict::Refused(refusal) => AnswerInNumbers {
                 refusal: refusal.number(),
                 answer: 0.0,
+            },
+        }
+    }
+}
+
+impl ManyAnswer {
+    pub fn in_numbers(self, count: usize) -> ManyInNumbers
+        ensures { λ r. ⌜ r ≡ manyInNumbers self count ⌝ }
+    {
+        match self {
+            ManyAnswer::Answered => ManyInNumbers {
+                refusal: 0,
+                query: count,
+            },
+            ManyAnswer::Refused(refusal) => ManyInNumbers {
+                refusal: refusal.number(),
+                query: count,
+            },
+            ManyAnswer::RefusedAt(refusal, query) => ManyInNumbers {
+                refusal: refusal.number(),
+                query,
             },
         }
     }

@@ -1,123 +1,117 @@
 // Prices, or running totals, at many points of one curve. The knots are checked once, and nothing is written where any query is refused.
+use crate::answer::ManyAnswer;
+use crate::answer::QueryAnswer;
 use crate::answer::curve_verdict;
 use crate::answer::point_verdict;
+use crate::known::are_answered;
 use crate::number::Wanted;
+use crate::number::asked_of;
 use crate::number::record_number;
 use crate::number::tail_number;
+use crate::place::least;
 use crate::place::place_from;
-use crate::place::search;
 use curve::curve::Curve;
-use numbers::SLOTS;
-use record::legality::legal_in;
+use numbers::mark;
+use record::number::Answer;
 use refusal::Refusal;
 use refusal::Verdict;
 ghost use mathlib.Core.Path.{_≡_};
 ghost use mathlib.Core.Bool.{true};
-ghost use Prim.Native.Nat.{_+_, _-_, _*_, _≤_, _<_};
+ghost use Prim.Native.Nat.{_+_, _≤_, _<_};
 ghost use lib.ListN.{length};
-ghost use Rattle.numbers.specs.Sizes.{slotCount};
-ghost use Rattle.numbers.specs.Every.{allBelow};
 ghost use Rattle.section.specs.Section.{value, primitive};
-ghost use Rattle.record.specs.Reading.{isSection, recordAt};
+ghost use Rattle.record.specs.Number.{answerIn};
 ghost use Rattle.refusal.specs.Refusal.{first};
 ghost use Rattle.refusal.specs.declared.Verdict.the-variants.{Accepted};
 ghost use Rattle.numbers.specs.OneOutcome.{pair};
-ghost use Rattle.query.specs.Query.{curveTests, covering, coveredAt};
-ghost use Rattle.query.specs.Steps.{figure};
-ghost use Rattle.query.specs.Many.{verdictOf, queriesVerdict, manyVerdict, answersAfter, manyOutcome};
+ghost use Rattle.numbers.specs.Overlay.{overlay};
+ghost use Rattle.table.specs.Table.{at};
+ghost use Rattle.query.specs.declared.answer.ManyAnswer.the-variants.{Answered};
+ghost use Rattle.query.specs.Query.{curveTests, pointTests, covering};
+ghost use Rattle.query.specs.Steps.{figure, answeredBefore};
+ghost use Rattle.query.specs.Many.{askAt, formulaAt, queriesVerdict, manyVerdict, manyOutcome};
 
-fn legal_at(tags: &[u16], slots: &[f64], i: usize) -> bool
-    requires { ⌜ (i < length (now tags)) × (slotCount * i + slotCount ≤ length (now slots)) × (i < 4096) ⌝ }
-    ensures { λ r. ⌜ r ≡ isSection (recordAt (now (tags .entry)) (now (slots .entry)) i) ⌝ }
-{
-    let from = SLOTS * i;
-    legal_in(tags[i], &slots[from..from + SLOTS])
+// So many queries are answered at a time where it is not known beforehand that none is refused.
+const BLOCK: usize = 64;
+
+// What the section that covers a query answers, and the place where it was found.
+pub(crate) struct Near {
+    pub answer: Answer,
+    pub place: usize,
 }
 
-// Whether every record is legal. Then no query needs to look at its own.
-fn all_legal(tags: &[u16], slots: &[f64], sections: usize) -> bool
-    requires { ⌜ (sections ≤ length (now tags)) × (slotCount * sections ≤ length (now slots)) × (sections ≤ 4096) ⌝ }
-    ensures { λ r. ⌜ r ≡ allBelow sections (λ i. isSection (recordAt (now (tags .entry)) (now (slots .entry)) i)) ⌝ }
-{
-    for i in 0..sections {
-        if !legal_at(tags, slots, i) {
-            return false;
-        }
-    }
-    true
-}
-
-// Whether the record that answers a query is legal; from the last knot on none is read.
-fn answers_legally(xs: &[f64], curve: Curve, tags: &[u16], slots: &[f64], q: f64) -> bool
-    requires { ⌜ (first (curveTests (now xs) (length (now tags)) (length (now slots))) ≡ Accepted) ⌝ }
-    ensures { λ r. ⌜ r ≡ isSection (covering (now (xs .entry)) curve (now (tags .entry)) (now (slots .entry)) q) ⌝ }
-{
-    let end = xs.len() - 1;
-    if xs[end] <= q {
-        return true;
-    }
-    legal_at(tags, slots, search(xs, q))
-}
-
-// Refusals 12, 13 and 15 of one query. `legal` says that every record is known to be.
-pub(crate) fn query_verdict(
+// What the section that covers one of many queries answers, sought from a place that it is likely to be near. From the last knot on no record is read.
+pub(crate) fn number_near(
+    wanted: Wanted,
     xs: &[f64],
     curve: Curve,
     tags: &[u16],
     slots: &[f64],
-    legal: bool,
+    near: usize,
     q: f64,
-) -> Verdict
-    requires { ⌜ (first (curveTests (now xs) (length (now tags)) (length (now slots))) ≡ Accepted) ⌝ }
-    requires { ⌜ (legal ≡ true → allBelow (length (now xs) - 1) (λ i. isSection (recordAt (now tags) (now slots) i)) ≡ true) ⌝ }
-    ensures { λ r. ⌜ r ≡ verdictOf (coveredAt (now (xs .entry)) curve (now (tags .entry)) (now (slots .entry)) q) ⌝ }
+) -> Near
+    requires { ⌜ (first (curveTests (now xs) (length (now tags)) (length (now slots))) ≡ Accepted) × (near + 1 < length (now xs)) ⌝ }
+    ensures answer { λ r. ⌜ r .answer ≡ answerIn (λ s. figure wanted s q) (covering (now (xs .entry)) curve (now (tags .entry)) (now (slots .entry)) q) ⌝ }
+    ensures place { λ r. ⌜ r .place + 1 < length (now (xs .entry)) ⌝ }
 {
-    let verdict = point_verdict(xs, curve, q);
-    match verdict {
-        Verdict::Refused(_) => verdict,
-        Verdict::Accepted => {
-            if legal {
-                return verdict;
-            }
-            if answers_legally(xs, curve, tags, slots, q) {
-                return verdict;
-            }
-            Verdict::Refused(Refusal::RecordNotLegal)
-        }
+    let end = xs[xs.len() - 1];
+    if end <= q {
+        return Near {
+            answer: Answer::Number(mark(tail_number(curve, wanted, q))),
+            place: near,
+        };
     }
+    let place = place_from(xs, q, near);
+    let answer = record_number(wanted, tags, slots, place, q);
+    Near { answer, place }
 }
 
-// Where the queries are as many as the points, looking at every record once is less work than looking at one for each query.
-pub(crate) fn known_legal(xs: &[f64], tags: &[u16], slots: &[f64], queries: usize) -> bool
-    requires { ⌜ (first (curveTests (now xs) (length (now tags)) (length (now slots))) ≡ Accepted) ⌝ }
-    ensures { λ r. ⌜ (r ≡ true → allBelow (length (now (xs .entry)) - 1) (λ i. isSection (recordAt (now (tags .entry)) (now (slots .entry)) i)) ≡ true) ⌝ }
-{
-    if queries < xs.len() {
-        return false;
-    }
-    all_legal(tags, slots, xs.len() - 1)
+// What a query is answered, and the place where its section was found.
+pub(crate) struct Looked {
+    pub answer: QueryAnswer,
+    pub place: usize,
 }
 
-// The first refusal of the queries, in their order.
-fn queries_verdict(xs: &[f64], curve: Curve, tags: &[u16], slots: &[f64], qs: &[f64]) -> Verdict
-    requires { ⌜ (first (curveTests (now xs) (length (now tags)) (length (now slots))) ≡ Accepted) ⌝ }
-    ensures { λ r. ⌜ r ≡ queriesVerdict (now (xs .entry)) curve (now (tags .entry)) (now (slots .entry)) (now (qs .entry)) ⌝ }
+// What one of many queries is answered, of a curve that passed its tests. `known` says that the query passes its own.
+pub(crate) fn look(
+    known: bool,
+    wanted: Wanted,
+    xs: &[f64],
+    curve: Curve,
+    tags: &[u16],
+    slots: &[f64],
+    near: usize,
+    q: f64,
+) -> Looked
+    requires { ⌜ (first (curveTests (now xs) (length (now tags)) (length (now slots))) ≡ Accepted) × (near + 1 < length (now xs)) ⌝ }
+    requires { ⌜ (known ≡ true → first (pointTests (now xs) curve q) ≡ Accepted) ⌝ }
+    ensures answer { λ r. ⌜ r .answer ≡ askAt (figure wanted) (now (xs .entry)) curve (now (tags .entry)) (now (slots .entry)) q ⌝ }
+    ensures place { λ r. ⌜ r .place + 1 < length (now (xs .entry)) ⌝ }
 {
-    let legal = known_legal(xs, tags, slots, qs.len());
-    for i in 0..qs.len() {
-        let verdict = query_verdict(xs, curve, tags, slots, legal, qs[i]);
-        match verdict {
-            Verdict::Refused(_) => {
-                return verdict;
+    if !known {
+        match point_verdict(xs, curve, q) {
+            Verdict::Refused(refusal) => {
+                return Looked {
+                    answer: QueryAnswer::Refused(refusal),
+                    place: near,
+                };
             }
             Verdict::Accepted => {}
         }
     }
-    Verdict::Accepted
+    let found = number_near(wanted, xs, curve, tags, slots, near, q);
+    let answer = found.answer;
+    Looked {
+        answer: asked_of(answer),
+        place: found.place,
+    }
 }
 
-// Writes the answers of queries that were not refused, each found from the place of the one before it.
+// Answers queries up to the first that is refused, into the first entries of `out`, each found from the place of the one before it. `known` says that none
+// is refused, so that none is looked at for that. All many queries come through here: what is called from one place only is compiled into it. So those who
+// call this tell `known` by a knot, which is equal to itself: for a flag that is written out the compiler would make a copy, and ask records from two places.
 fn fill(
+    known: bool,
     wanted: Wanted,
     xs: &[f64],
     curve: Curve,
@@ -125,42 +119,107 @@ fn fill(
     slots: &[f64],
     qs: &[f64],
     out: &mut [f64],
-)
-    requires { ⌜ (first (curveTests (now xs) (length (now tags)) (length (now slots))) ≡ Accepted) ⌝ }
-    requires { ⌜ (queriesVerdict (now xs) curve (now tags) (now slots) (now qs) ≡ Accepted) × (length (now qs) ≤ length (now out)) ⌝ }
-    ensures { λ _. ⌜ now (out .exit) ≡ answersAfter (figure wanted) (now (xs .entry)) curve (now (tags .entry)) (now (slots .entry)) (now (qs .entry)) (now (out .entry)) ⌝ }
+) -> ManyAnswer
+    requires { ⌜ (first (curveTests (now xs) (length (now tags)) (length (now slots))) ≡ Accepted) × (length (now qs) ≤ length (now out)) ⌝ }
+    requires { ⌜ (known ≡ true → queriesVerdict (figure wanted) (now xs) curve (now tags) (now slots) (now qs) ≡ Answered) ⌝ }
+    ensures verdict { λ r. ⌜ r ≡ queriesVerdict (figure wanted) (now (xs .entry)) curve (now (tags .entry)) (now (slots .entry)) (now (qs .entry)) ⌝ }
+    ensures out { λ r. ⌜ now (out .exit) ≡ overlay 0 (answeredBefore r (length (now (qs .entry)))) (λ i. formulaAt (figure wanted) (now (xs .entry)) curve (now (tags .entry)) (now (slots .entry)) (at (now (qs .entry)) i)) (now (out .entry)) ⌝ }
 {
-    let end = xs[xs.len() - 1];
-    let mut at: usize = 0;
+    let mut place: usize = 0;
     for i in 0..qs.len() {
-        let q = qs[i];
-        if end <= q {
-            out[i] = tail_number(curve, wanted, q);
-            continue;
+        let looked = look(known, wanted, xs, curve, tags, slots, place, qs[i]);
+        let answer = looked.answer;
+        if !known {
+            match answer.verdict() {
+                Verdict::Refused(refusal) => {
+                    return ManyAnswer::RefusedAt(refusal, i);
+                }
+                Verdict::Accepted => {}
+            }
         }
-        at = place_from(xs, q, at);
-        out[i] = record_number(wanted, tags, slots, at, q).or_zero();
+        out[i] = answer.number();
+        place = looked.place;
     }
+    ManyAnswer::Answered
+}
+
+// The first refusal of the queries, in their order: a block of them at a time is answered into room of its own.
+fn blocks_verdict(
+    wanted: Wanted,
+    xs: &[f64],
+    curve: Curve,
+    tags: &[u16],
+    slots: &[f64],
+    qs: &[f64],
+) -> ManyAnswer
+    requires { ⌜ (first (curveTests (now xs) (length (now tags)) (length (now slots))) ≡ Accepted) ⌝ }
+    ensures { λ r. ⌜ r ≡ queriesVerdict (figure wanted) (now (xs .entry)) curve (now (tags .entry)) (now (slots .entry)) (now (qs .entry)) ⌝ }
+{
+    let knot = xs[0];
+    let known = knot != knot;
+    let mut room = [0.0; BLOCK];
+    let mut from: usize = 0;
+    while from < qs.len() {
+        let to = from + least(BLOCK, qs.len() - from);
+        match fill(
+            known,
+            wanted,
+            xs,
+            curve,
+            tags,
+            slots,
+            &qs[from..to],
+            &mut room,
+        ) {
+            ManyAnswer::Refused(refusal) => {
+                return ManyAnswer::Refused(refusal);
+            }
+            ManyAnswer::RefusedAt(refusal, k) => {
+                return ManyAnswer::RefusedAt(refusal, from + k);
+            }
+            ManyAnswer::Answered => {}
+        }
+        from = to;
+    }
+    ManyAnswer::Answered
+}
+
+// The same, with no look at each query where it is known that none is refused.
+fn queries_verdict(
+    wanted: Wanted,
+    xs: &[f64],
+    curve: Curve,
+    tags: &[u16],
+    slots: &[f64],
+    qs: &[f64],
+) -> ManyAnswer
+    requires { ⌜ (first (curveTests (now xs) (length (now tags)) (length (now slots))) ≡ Accepted) ⌝ }
+    ensures { λ r. ⌜ r ≡ queriesVerdict (figure wanted) (now (xs .entry)) curve (now (tags .entry)) (now (slots .entry)) (now (qs .entry)) ⌝ }
+{
+    if are_answered(xs, curve, tags, slots, qs) {
+        return ManyAnswer::Answered;
+    }
+    blocks_verdict(wanted, xs, curve, tags, slots, qs)
 }
 
 fn many_verdict(
+    wanted: Wanted,
     xs: &[f64],
     curve: Curve,
     tags: &[u16],
     slots: &[f64],
     qs: &[f64],
     room: usize,
-) -> Verdict
-    ensures { λ r. ⌜ r ≡ manyVerdict (now (xs .entry)) curve (now (tags .entry)) (now (slots .entry)) (now (qs .entry)) room ⌝ }
+) -> ManyAnswer
+    ensures { λ r. ⌜ r ≡ manyVerdict (figure wanted) (now (xs .entry)) curve (now (tags .entry)) (now (slots .entry)) (now (qs .entry)) room ⌝ }
 {
-    let verdict = curve_verdict(xs, tags.len(), slots.len());
-    match verdict {
-        Verdict::Refused(_) => verdict,
+    match curve_verdict(xs, tags.len(), slots.len()) {
+        Verdict::Refused(refusal) => ManyAnswer::Refused(refusal),
         Verdict::Accepted => {
             if room < qs.len() {
-                return Verdict::Refused(Refusal::BufferTooShort);
+                return ManyAnswer::Refused(Refusal::BufferTooShort);
             }
-            queries_verdict(xs, curve, tags, slots, qs)
+            queries_verdict(wanted, xs, curve, tags, slots, qs)
         }
     }
 }
@@ -174,15 +233,17 @@ fn answers(
     slots: &[f64],
     qs: &[f64],
     out: &mut [f64],
-) -> Verdict
+) -> ManyAnswer
     ensures { λ r. ⌜ pair r (now (out .exit)) ≡ manyOutcome (figure wanted) (now (xs .entry)) curve (now (tags .entry)) (now (slots .entry)) (now (qs .entry)) (now (out .entry)) ⌝ }
 {
-    let verdict = many_verdict(xs, curve, tags, slots, qs, out.len());
+    let verdict = many_verdict(wanted, xs, curve, tags, slots, qs, out.len());
     match verdict {
-        Verdict::Refused(_) => verdict,
-        Verdict::Accepted => {
-            fill(wanted, xs, curve, tags, slots, qs, out);
-            verdict
+        ManyAnswer::Refused(_) => verdict,
+        ManyAnswer::RefusedAt(_, _) => verdict,
+        ManyAnswer::Answered => {
+            let knot = xs[0];
+            let known = knot == knot;
+            fill(known, wanted, xs, curve, tags, slots, qs, out)
         }
     }
 }
@@ -195,7 +256,7 @@ pub fn values(
     slots: &[f64],
     qs: &[f64],
     out: &mut [f64],
-) -> Verdict
+) -> ManyAnswer
     ensures { λ r. ⌜ pair r (now (out .exit)) ≡ manyOutcome value (now (xs .entry)) curve (now (tags .entry)) (now (slots .entry)) (now (qs .entry)) (now (out .entry)) ⌝ }
 {
     answers(Wanted::Price, xs, curve, tags, slots, qs, out)
@@ -209,7 +270,7 @@ pub fn primitives(
     slots: &[f64],
     qs: &[f64],
     out: &mut [f64],
-) -> Verdict
+) -> ManyAnswer
     ensures { λ r. ⌜ pair r (now (out .exit)) ≡ manyOutcome primitive (now (xs .entry)) curve (now (tags .entry)) (now (slots .entry)) (now (qs .entry)) (now (out .entry)) ⌝ }
 {
     answers(Wanted::Total, xs, curve, tags, slots, qs, out)

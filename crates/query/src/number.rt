@@ -1,9 +1,11 @@
-// The number that a query asks: of a record, worked out from its slots, and of the curve's tail. No section is put together for a record.
+// The number that a query asks, with its mark: of a record, worked out from its slots, and of the curve's tail. No section is put together for a record.
+use crate::answer::QueryAnswer;
 use curve::curve::Curve;
 use numbers::SLOTS;
 use record::number::Answer;
 use record::number::primitive_in;
 use record::number::value_in;
+use refusal::Refusal;
 use section::everywhere_constant::EverywhereConstant;
 ghost use mathlib.Core.Path.{_≡_};
 ghost use Prim.Native.Nat.{_+_, _*_, _≤_, _<_};
@@ -12,7 +14,7 @@ ghost use Rattle.numbers.specs.Sizes.{slotCount};
 ghost use Rattle.record.specs.Number.{answerIn};
 ghost use Rattle.record.specs.Reading.{recordAt};
 ghost use Rattle.query.specs.Query.{tailSection};
-ghost use Rattle.query.specs.Steps.{figure};
+ghost use Rattle.query.specs.Steps.{figure, askedOf};
 
 // What is asked at a point.
 pub(crate) enum Wanted {
@@ -43,5 +45,15 @@ pub(crate) fn record_number(wanted: Wanted, tags: &[u16], slots: &[f64], i: usiz
     match wanted {
         Wanted::Price => value_in(tag, record, q),
         Wanted::Total => primitive_in(tag, record, q),
+    }
+}
+
+// What a query is answered that nothing refuses but its record.
+pub(crate) fn asked_of(answer: Answer) -> QueryAnswer
+    ensures { λ r. ⌜ r ≡ askedOf answer ⌝ }
+{
+    match answer {
+        Answer::Number(marked) => QueryAnswer::Number(marked),
+        Answer::Illegal => QueryAnswer::Refused(Refusal::RecordNotLegal),
     }
 }

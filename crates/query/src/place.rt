@@ -25,7 +25,7 @@ fn covers(xs: &[f64], q: f64, i: usize) -> bool
 }
 
 // The smaller of two.
-fn least(a: usize, b: usize) -> usize
+pub(crate) fn least(a: usize, b: usize) -> usize
     ensures { λ r. ⌜ (r ≤ a) × (r ≤ b) × ((r ≡ a) ⊎ (r ≡ b)) ⌝ }
 {
     if a < b {

@@ -2,12 +2,13 @@
 use crate::answer::QueryAnswer;
 use crate::answer::query_verdict;
 use crate::number::Wanted;
+use crate::number::asked_of;
 use crate::number::record_number;
 use crate::number::tail_number;
 use crate::place::place_of;
 use curve::curve::Curve;
+use numbers::mark;
 use record::number::Answer;
-use refusal::Refusal;
 use refusal::Verdict;
 ghost use mathlib.Core.Path.{_≡_};
 ghost use lib.ListN.{length};
@@ -32,7 +33,7 @@ pub(crate) fn covering_number(
 {
     let end = xs.len() - 1;
     if xs[end] <= q {
-        return Answer::Number(tail_number(curve, wanted, q));
+        return Answer::Number(mark(tail_number(curve, wanted, q)));
     }
     record_number(wanted, tags, slots, place_of(xs, q), q)
 }
@@ -50,10 +51,7 @@ fn answer_at(
 {
     match query_verdict(xs, curve, tags.len(), slots.len(), q) {
         Verdict::Refused(refusal) => QueryAnswer::Refused(refusal),
-        Verdict::Accepted => match covering_number(wanted, xs, curve, tags, slots, q) {
-            Answer::Number(number) => QueryAnswer::Number(number),
-            Answer::Illegal => QueryAnswer::Refused(Refusal::RecordNotLegal),
-        },
+        Verdict::Accepted => asked_of(covering_number(wanted, xs, curve, tags, slots, q)),
     }
 }
 

@@ -3,9 +3,10 @@ use crate::answer::QueryAnswer;
 use crate::answer::curve_verdict;
 use crate::answer::point_verdict;
 use crate::number::Wanted;
+use crate::number::asked_of;
 use crate::single::covering_number;
 use curve::curve::Curve;
-use record::number::Answer;
+use numbers::mark;
 use refusal::Refusal;
 use refusal::Verdict;
 ghost use mathlib.Core.Path.{_≡_};
@@ -22,15 +23,12 @@ fn total_to(xs: &[f64], curve: Curve, tags: &[u16], slots: &[f64], q: f64) -> Qu
 {
     match point_verdict(xs, curve, q) {
         Verdict::Refused(refusal) => QueryAnswer::Refused(refusal),
-        Verdict::Accepted => match covering_number(Wanted::Total, xs, curve, tags, slots, q) {
-            Answer::Number(number) => QueryAnswer::Number(number),
-            Answer::Illegal => QueryAnswer::Refused(Refusal::RecordNotLegal),
-        },
+        Verdict::Accepted => asked_of(covering_number(Wanted::Total, xs, curve, tags, slots, q)),
     }
 }
 
-// The strip by the totals up to its two ends.
-fn strip_of(a: f64, b: f64, from: QueryAnswer, to: QueryAnswer) -> QueryAnswer
+// The strip by the totals up to its two ends. What they are marked does not matter: its own number does.
+pub(crate) fn strip_of(a: f64, b: f64, from: QueryAnswer, to: QueryAnswer) -> QueryAnswer
     ensures { λ r. ⌜ r ≡ stripOf a b from to ⌝ }
 {
     match from {
@@ -39,7 +37,7 @@ fn strip_of(a: f64, b: f64, from: QueryAnswer, to: QueryAnswer) -> QueryAnswer
             QueryAnswer::Refused(_) => to,
             QueryAnswer::Number(q) => {
                 if a < b {
-                    return QueryAnswer::Number((q - p) / (b - a));
+                    return QueryAnswer::Number(mark((q.number - p.number) / (b - a)));
                 }
                 QueryAnswer::Refused(Refusal::StripEndsNotRising)
             }

@@ -1,92 +1,67 @@
 // Many strips of one curve. The knots are checked once, and nothing is written where any strip is refused.
+use crate::answer::ManyAnswer;
+use crate::answer::QueryAnswer;
 use crate::answer::curve_verdict;
-use crate::many::known_legal;
-use crate::many::query_verdict;
+use crate::known::are_priced;
+use crate::many::look;
+use crate::many::number_near;
 use crate::number::Wanted;
-use crate::number::record_number;
-use crate::number::tail_number;
-use crate::place::place_from;
+use crate::strip::strip_of;
 use curve::curve::Curve;
 use refusal::Refusal;
 use refusal::Verdict;
 ghost use mathlib.Core.Path.{_≡_};
 ghost use mathlib.Core.Bool.{true};
-ghost use Prim.Native.Nat.{ℕ, _+_, _-_, _≤_, _<_};
+ghost use Prim.Native.Nat.{ℕ, _+_, _≤_, _<_};
 ghost use lib.ListN.{length};
 ghost use Rattle.numbers.specs.OneOutcome.{pair};
-ghost use Rattle.numbers.specs.Every.{allBelow};
-ghost use Rattle.section.specs.Section.{primitive};
-ghost use Rattle.record.specs.Reading.{isSection, recordAt};
 ghost use Rattle.refusal.specs.Refusal.{first};
 ghost use Rattle.refusal.specs.declared.Verdict.the-variants.{Accepted};
 ghost use Rattle.table.specs.Table.{at};
-ghost use Rattle.query.specs.Query.{curveTests, coveredAt};
-ghost use Rattle.query.specs.Many.{verdictOf, answerAt, manyVerdict};
-ghost use Rattle.query.specs.Strip.{stripAt, verdictIn, stripsVerdict, stripsAfter, stripsOutcome, pairsOutcome, runOutcome};
+ghost use Rattle.query.specs.declared.answer.ManyAnswer.the-variants.{Answered};
+ghost use Rattle.query.specs.Query.{curveTests};
+ghost use Rattle.query.specs.Strip.{stripsVerdict, stripsAfter, stripsOutcome, pairsOutcome, runOutcome};
 
-// A total, and the place where it was found.
-struct Total {
-    number: f64,
-    place: usize,
-}
-
-// The total up to a point that is not refused, sought from a place that it is likely to be near.
-fn total_near(xs: &[f64], curve: Curve, tags: &[u16], slots: &[f64], near: usize, q: f64) -> Total
-    requires { ⌜ (first (curveTests (now xs) (length (now tags)) (length (now slots))) ≡ Accepted) ⌝ }
-    requires { ⌜ (verdictOf (coveredAt (now xs) curve (now tags) (now slots) q) ≡ Accepted) × (near + 1 < length (now xs)) ⌝ }
-    ensures number { λ r. ⌜ r .number ≡ answerAt primitive (now (xs .entry)) curve (now (tags .entry)) (now (slots .entry)) q ⌝ }
-    ensures place { λ r. ⌜ r .place + 1 < length (now (xs .entry)) ⌝ }
-{
-    let end = xs[xs.len() - 1];
-    if end <= q {
-        return Total {
-            number: tail_number(curve, Wanted::Total, q),
-            place: near,
-        };
-    }
-    let place = place_from(xs, q, near);
-    let number = record_number(Wanted::Total, tags, slots, place, q).or_zero();
-    Total { number, place }
-}
-
-// The first refusal of the strip from a to b. `known` says that a's query is known not to be refused.
-fn strip_verdict(
+// The first refusal of the strips, in their order, by what each is answered. Where each starts at the end of the one before it, that end is asked once.
+fn each_verdict(
     xs: &[f64],
     curve: Curve,
     tags: &[u16],
     slots: &[f64],
-    legal: bool,
-    known: bool,
-    a: f64,
-    b: f64,
-) -> Verdict
-    requires { ⌜ (first (curveTests (now xs) (length (now tags)) (length (now slots))) ≡ Accepted) ⌝ }
-    requires { ⌜ (legal ≡ true → allBelow (length (now xs) - 1) (λ i. isSection (recordAt (now tags) (now slots) i)) ≡ true) ⌝ }
-    requires { ⌜ (known ≡ true → verdictOf (coveredAt (now xs) curve (now tags) (now slots) a) ≡ Accepted) ⌝ }
-    ensures { λ r. ⌜ r ≡ verdictIn (stripAt (now (xs .entry)) curve (now (tags .entry)) (now (slots .entry)) a b) ⌝ }
+    starts: &[f64],
+    ends: &[f64],
+    adjoining: bool,
+) -> ManyAnswer
+    requires { ⌜ (first (curveTests (now xs) (length (now tags)) (length (now slots))) ≡ Accepted) × (length (now starts) ≡ length (now ends)) ⌝ }
+    requires { ⌜ (adjoining ≡ true → (k : ℕ) → k + 1 < length (now starts) → at (now starts) (k + 1) ≡ at (now ends) k) ⌝ }
+    ensures { λ r. ⌜ r ≡ stripsVerdict (now (xs .entry)) curve (now (tags .entry)) (now (slots .entry)) (length (now (starts .entry))) (at (now (starts .entry))) (at (now (ends .entry))) ⌝ }
 {
-    if !known {
-        let from = query_verdict(xs, curve, tags, slots, legal, a);
-        match from {
-            Verdict::Refused(_) => {
-                return from;
+    let mut place: usize = 0;
+    let mut before = QueryAnswer::Refused(Refusal::QueryNotANumber);
+    for k in 0..starts.len() {
+        let start = starts[k];
+        let end = ends[k];
+        let asked = adjoining && 0 < k;
+        if !asked {
+            let since = look(false, Wanted::Total, xs, curve, tags, slots, place, start);
+            before = since.answer;
+            place = since.place;
+        }
+        let until = look(false, Wanted::Total, xs, curve, tags, slots, place, end);
+        let total = until.answer;
+        match strip_of(start, end, before, total).verdict() {
+            Verdict::Refused(refusal) => {
+                return ManyAnswer::RefusedAt(refusal, k);
             }
             Verdict::Accepted => {}
         }
+        before = total;
+        place = until.place;
     }
-    let to = query_verdict(xs, curve, tags, slots, legal, b);
-    match to {
-        Verdict::Refused(_) => to,
-        Verdict::Accepted => {
-            if a < b {
-                return to;
-            }
-            Verdict::Refused(Refusal::StripEndsNotRising)
-        }
-    }
+    ManyAnswer::Answered
 }
 
-// The first refusal of the strips, in their order. Where each starts at the end of the one before it, that end is asked once.
+// The same, with no look at each strip where it is known that none is refused.
 fn strips_verdict(
     xs: &[f64],
     curve: Curve,
@@ -95,23 +70,15 @@ fn strips_verdict(
     starts: &[f64],
     ends: &[f64],
     adjoining: bool,
-) -> Verdict
+) -> ManyAnswer
     requires { ⌜ (first (curveTests (now xs) (length (now tags)) (length (now slots))) ≡ Accepted) × (length (now starts) ≡ length (now ends)) ⌝ }
     requires { ⌜ (adjoining ≡ true → (k : ℕ) → k + 1 < length (now starts) → at (now starts) (k + 1) ≡ at (now ends) k) ⌝ }
     ensures { λ r. ⌜ r ≡ stripsVerdict (now (xs .entry)) curve (now (tags .entry)) (now (slots .entry)) (length (now (starts .entry))) (at (now (starts .entry))) (at (now (ends .entry))) ⌝ }
 {
-    let legal = known_legal(xs, tags, slots, starts.len());
-    for k in 0..starts.len() {
-        let known = adjoining && 0 < k;
-        let verdict = strip_verdict(xs, curve, tags, slots, legal, known, starts[k], ends[k]);
-        match verdict {
-            Verdict::Refused(_) => {
-                return verdict;
-            }
-            Verdict::Accepted => {}
-        }
+    if are_priced(xs, curve, tags, slots, starts, ends) {
+        return ManyAnswer::Answered;
     }
-    Verdict::Accepted
+    each_verdict(xs, curve, tags, slots, starts, ends, adjoining)
 }
 
 // Writes the prices of strips that were not refused, each end found from the place of the one before it.
@@ -127,7 +94,7 @@ fn fill(
 )
     requires { ⌜ (first (curveTests (now xs) (length (now tags)) (length (now slots))) ≡ Accepted) × (length (now starts) ≡ length (now ends)) ⌝ }
     requires { ⌜ (adjoining ≡ true → (k : ℕ) → k + 1 < length (now starts) → at (now starts) (k + 1) ≡ at (now ends) k) ⌝ }
-    requires { ⌜ (stripsVerdict (now xs) curve (now tags) (now slots) (length (now starts)) (at (now starts)) (at (now ends)) ≡ Accepted) × (length (now starts) ≤ length (now out)) ⌝ }
+    requires { ⌜ (stripsVerdict (now xs) curve (now tags) (now slots) (length (now starts)) (at (now starts)) (at (now ends)) ≡ Answered) × (length (now starts) ≤ length (now out)) ⌝ }
     ensures { λ _. ⌜ now (out .exit) ≡ stripsAfter (now (xs .entry)) curve (now (tags .entry)) (now (slots .entry)) (length (now (starts .entry))) (at (now (starts .entry))) (at (now (ends .entry))) (now (out .entry)) ⌝ }
 {
     let mut place: usize = 0;
@@ -137,14 +104,17 @@ fn fill(
         let b = ends[k];
         let known = adjoining && 0 < k;
         if !known {
-            let from = total_near(xs, curve, tags, slots, place, a);
-            before = from.number;
+            let from = number_near(Wanted::Total, xs, curve, tags, slots, place, a);
+            let answer = from.answer;
+            before = answer.or_zero();
             place = from.place;
         }
-        let to = total_near(xs, curve, tags, slots, place, b);
-        out[k] = (to.number - before) / (b - a);
-        before = to.number;
+        let to = number_near(Wanted::Total, xs, curve, tags, slots, place, b);
+        let answer = to.answer;
+        let total = answer.or_zero();
+        out[k] = (total - before) / (b - a);
         place = to.place;
+        before = total;
     }
 }
 
@@ -159,22 +129,22 @@ fn priced(
     ends: &[f64],
     adjoining: bool,
     out: &mut [f64],
-) -> Verdict
+) -> ManyAnswer
     requires { ⌜ length (now starts) ≡ length (now ends) ⌝ }
     requires { ⌜ (adjoining ≡ true → (k : ℕ) → k + 1 < length (now starts) → at (now starts) (k + 1) ≡ at (now ends) k) ⌝ }
     ensures { λ r. ⌜ pair r (now (out .exit)) ≡ stripsOutcome (now (xs .entry)) curve (now (tags .entry)) (now (slots .entry)) (length (now (starts .entry))) (at (now (starts .entry))) (at (now (ends .entry))) (now (out .entry)) ⌝ }
 {
-    let of_curve = curve_verdict(xs, tags.len(), slots.len());
-    match of_curve {
-        Verdict::Refused(_) => of_curve,
+    match curve_verdict(xs, tags.len(), slots.len()) {
+        Verdict::Refused(refusal) => ManyAnswer::Refused(refusal),
         Verdict::Accepted => {
             if out.len() < starts.len() {
-                return Verdict::Refused(Refusal::BufferTooShort);
+                return ManyAnswer::Refused(Refusal::BufferTooShort);
             }
             let verdict = strips_verdict(xs, curve, tags, slots, starts, ends, adjoining);
             match verdict {
-                Verdict::Refused(_) => verdict,
-                Verdict::Accepted => {
+                ManyAnswer::Refused(_) => verdict,
+                ManyAnswer::RefusedAt(_, _) => verdict,
+                ManyAnswer::Answered => {
                     fill(xs, curve, tags, slots, starts, ends, adjoining, out);
                     verdict
                 }
@@ -192,11 +162,11 @@ pub fn strips(
     starts: &[f64],
     ends: &[f64],
     out: &mut [f64],
-) -> Verdict
+) -> ManyAnswer
     ensures { λ r. ⌜ pair r (now (out .exit)) ≡ pairsOutcome (now (xs .entry)) curve (now (tags .entry)) (now (slots .entry)) (now (starts .entry)) (now (ends .entry)) (now (out .entry)) ⌝ }
 {
     if starts.len() != ends.len() {
-        return Verdict::Refused(Refusal::LengthsDiffer);
+        return ManyAnswer::Refused(Refusal::LengthsDiffer);
     }
     priced(xs, curve, tags, slots, starts, ends, false, out)
 }
@@ -209,7 +179,7 @@ pub fn run(
     slots: &[f64],
     edges: &[f64],
     out: &mut [f64],
-) -> Verdict
+) -> ManyAnswer
     ensures { λ r. ⌜ pair r (now (out .exit)) ≡ runOutcome (now (xs .entry)) curve (now (tags .entry)) (now (slots .entry)) (now (edges .entry)) (now (out .entry)) ⌝ }
 {
     if edges.len() == 0 {

@@ -31,19 +31,11 @@ returns c =
 
 returns-2 : tie.Need-returns-2
 returns-2 c =
-    let m = c .before .before .before in
+    let m = c .before in
     let a = m .before .before .before .before .before .before .before .args in
     let f : Section → Float = λ s. figure (a .wanted) s (a .q) in
     let v = first (queryTests (a .xs .now) (a .curve) (length (a .tags .now)) (length (a .slots .now)) (a .q)) in
-    answered f v (covering (a .xs .now) (a .curve) (a .tags .now) (a .slots .now) (a .q)) _ (accepted (m .before)) (sym (m .covering-number .ensures) ∙ c .before .number .given .1)
-
-returns-3 : tie.Need-returns-3
-returns-3 c =
-    let m = c .before .before in
-    let a = m .before .before .before .before .before .before .before .args in
-    let f : Section → Float = λ s. figure (a .wanted) s (a .q) in
-    let v = first (queryTests (a .xs .now) (a .curve) (length (a .tags .now)) (length (a .slots .now)) (a .q)) in
-    answered f v (covering (a .xs .now) (a .curve) (a .tags .now) (a .slots .now) (a .q)) _ (accepted (m .before)) (sym (m .covering-number .ensures) ∙ c .enum-told2 .given .1)
+    c .asked-of .ensures ∙ answered f v (covering (a .xs .now) (a .curve) (a .tags .now) (a .slots .now) (a .q)) _ (accepted (m .before)) (m .covering-number .ensures)
 
 pub answer-at-spec : {M : Type 1} → statement M
 answer-at-spec =
@@ -51,5 +43,5 @@ answer-at-spec =
     (tie.spec
     (λ c κs. search needs) (λ c. search needs) (λ c. search needs)
     covering-number-requires
-    (λ c. search needs) (λ c. search needs)
-    returns returns-2 returns-3)
+    (λ c κs. search needs)
+    returns returns-2)

@@ -3,6 +3,7 @@ use native.Mathlib.Omega.{arith}
 use mathlib.Core.Path.{sym, ap, _∙_}
 use borrow.Author.Needs.{needs}
 use lib.ListN.{length}
+use Rattle.numbers.specs.Marks.{mark}
 use Rattle.section.specs.declared.section.Section.{Section}
 use Rattle.record.specs.Number.{answerIn}
 use Rattle.record.specs.Reading.{recordAt}
@@ -19,9 +20,9 @@ fits c = let a = c .args in reached (a .xs .now) (length (a .tags .now)) (length
 
 returns : tie.Need-returns
 returns c =
-    let a = c .before .before .before .before .before .before .args in
-    ap answer.Number (c .tail-number .ensures)
-    ∙ sym (ap (answerIn (λ (s : Section). figure (a .wanted) s (a .q))) (from-the-last (a .xs .now) (a .curve) (a .tags .now) (a .slots .now) (a .q) (c .before .if1 .taken)))
+    let a = c .before .before .before .before .before .before .before .args in
+    ap answer.Number (c .mark .ensures ∙ ap mark (c .before .tail-number .ensures))
+    ∙ sym (ap (answerIn (λ (s : Section). figure (a .wanted) s (a .q))) (from-the-last (a .xs .now) (a .curve) (a .tags .now) (a .slots .now) (a .q) (c .before .before .if1 .taken)))
 
 -- the place that was found has a record
 record-number-requires : tie.Need-record-number-requires
@@ -45,7 +46,7 @@ covering-number-spec =
     (λ c. omega (arith, fits (c .before .before .before) .low))
     (λ c. omega (arith, fits (c .before .before .before) .low, fits (c .before .before .before) .room .high))
     (λ c. omega (arith, fits (c .before .before .before .before) .low))
-    (λ c κs. search needs)
+    (λ c κs. search needs) (λ c κs. search needs)
     returns
     (λ c κs. let f = fits (c .before .before .before .before .before) in (f .low, f .room .high, f .up))
     record-number-requires

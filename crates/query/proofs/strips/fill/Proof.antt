@@ -14,20 +14,22 @@ use Rattle.numbers.proofs.Overlay.{overlay-none, overlay-more}
 use Rattle.section.specs.Section.{primitive}
 use Rattle.refusal.specs.declared.Verdict.the-variants.{Accepted}
 use Rattle.table.specs.Table.{at}
-use Rattle.query.specs.Many.{answerAt}
-use Rattle.query.specs.Query.{answerInNumbers}
-use Rattle.query.specs.Strip.{stripAt, verdictIn}
+use Rattle.section.specs.declared.section.Section.{Section}
+use Rattle.record.specs.Number.{answerIn, orZero}
+use Rattle.query.specs.Many.{formulaAt}
+use Rattle.query.specs.Query.{covering, numberIn, verdictIn}
+use Rattle.query.specs.Strip.{stripAt}
 use Rattle.query.proofs.Answers.{Reaches, reached}
-use Rattle.query.proofs.ByParts.{ends-accepted, priced-so}
-use Rattle.query.proofs.Covering.{all-accepted}
+use Rattle.query.proofs.ByParts.{by-parts, priced-so}
+use Rattle.query.proofs.Covering.{all-accepted, told}
 use Rattle.query.proofs.strips.fill.Statement.{statement}
 use Rattle.query.proofs.strips.fill.Tie as tie
 
 abbrev Inv-loop : tie.InvT-loop
 Inv-loop xs curve tags slots starts ends adjoining out₀ place₀ before₀ k₀ k-end out place before k =
     (k ≤ k-end) × (k-end ≡ length starts) × (place + 1 < length xs) × (length out ≡ length out₀)
-    × (out ≡ overlay 0 k (λ j. answerInNumbers (stripAt xs curve tags slots (at starts j) (at ends j)) .answer) out₀)
-    × (0 < k → before ≡ answerAt primitive xs curve tags slots (at ends (k - 1)))
+    × (out ≡ overlay 0 k (λ j. numberIn (stripAt xs curve tags slots (at starts j) (at ends j))) out₀)
+    × (0 < k → before ≡ formulaAt primitive xs curve tags slots (at ends (k - 1)))
 
 abbrev μ-loop : tie.MeasureT-loop
 μ-loop xs curve tags slots starts ends adjoining out₀ place₀ before₀ k₀ k-end out place before k = k-end - k
@@ -48,7 +50,7 @@ loop-holds c = (search needs, search needs, omega (arith, fits (c .before .befor
 
 -- a start that need not be asked is the end of the strip before it, and its total is at hand
 kept : (c : tie.Joined1 Inv-loop μ-loop) → let a = c .before .before .before .before .before .before .before .before .before .before .before .args in let l = c .before .before .before .before .loop in
-    c .if1 .known ≡ true → l .before ≡ answerAt primitive (a .xs .now) (a .curve) (a .tags .now) (a .slots .now) (at (a .starts .now) (l .k))
+    c .if1 .known ≡ true → l .before ≡ formulaAt primitive (a .xs .now) (a .curve) (a .tags .now) (a .slots .now) (at (a .starts .now) (l .k))
 kept c h =
     let s = c .before .before .before .before .before .before .before .before .before .before .before in
     let a = s .args in
@@ -59,54 +61,64 @@ kept c h =
     let o : 0 < l .k = ltb-true 0 (l .k) (sym (w .1) ∙ h) in
     let e : l .k - 1 + 1 ≡ l .k = omega (arith, o) in
     l .inv .5 o
-    ∙ ap (answerAt primitive (a .xs .now) (a .curve) (a .tags .now) (a .slots .now))
+    ∙ ap (formulaAt primitive (a .xs .now) (a .curve) (a .tags .now) (a .slots .now))
     (sym (s .pre .1 .0 (w .0 .taken) (l .k - 1) (omega (arith, o, inside))) ∙ ap (at (a .starts .now)) e))
     (λ w. never (sym (w .1) ∙ h) (w .0 .left))
     (c .if1 .came)
 
+-- the total that the section at a point gives, where the point's query is not refused
+total : (c : Start) (k : ℕ) → let a = c .args in k < length (a .starts .now) →
+    (orZero (answerIn (λ (s : Section). primitive s (at (a .starts .now) k)) (covering (a .xs .now) (a .curve) (a .tags .now) (a .slots .now) (at (a .starts .now) k)))
+    ≡ formulaAt primitive (a .xs .now) (a .curve) (a .tags .now) (a .slots .now) (at (a .starts .now) k))
+    × (orZero (answerIn (λ (s : Section). primitive s (at (a .ends .now) k)) (covering (a .xs .now) (a .curve) (a .tags .now) (a .slots .now) (at (a .ends .now) k)))
+    ≡ formulaAt primitive (a .xs .now) (a .curve) (a .tags .now) (a .slots .now) (at (a .ends .now) k))
+total c k l =
+    let a = c .args in
+    let n = by-parts (a .xs .now) (a .curve) (a .tags .now) (a .slots .now) (at (a .starts .now) k) (at (a .ends .now) k) (fine c k l) in (
+      told (a .xs .now) (a .curve) (a .tags .now) (a .slots .now) (at (a .starts .now) k) primitive (n .0),
+      told (a .xs .now) (a .curve) (a .tags .now) (a .slots .now) (at (a .ends .now) k) primitive (n .1),
+    )
+
 -- so the total up to the start is at hand, asked or not
 here : (c : tie.Joined2 Inv-loop μ-loop) → let a = c .before .before .before .before .before .before .before .before .before .before .before .before .args in let l = c .before .before .before .before .before .loop in
-    (c .if2 .before ≡ answerAt primitive (a .xs .now) (a .curve) (a .tags .now) (a .slots .now) (at (a .starts .now) (l .k))) × (c .if2 .place + 1 < length (a .xs .now))
+    (c .if2 .before ≡ formulaAt primitive (a .xs .now) (a .curve) (a .tags .now) (a .slots .now) (at (a .starts .now) (l .k))) × (c .if2 .place + 1 < length (a .xs .now))
 here c =
+    let s = c .before .before .before .before .before .before .before .before .before .before .before .before in
     let l = c .before .before .before .before .before .loop in
+    let inside : l .k < length (s .args .starts .now) = omega (arith, l .inv .1, c .before .before .before .before .loop-test .taken) in
     ⊎-elim
-    (λ w. (w .3 ∙ w .1 .ensures .0, omega (arith, w .2, w .1 .ensures .1)))
+    (λ w. (w .4 ∙ w .2 .ensures ∙ ap orZero (w .1 .ensures .0) ∙ total s (l .k) inside .0, omega (arith, w .3, w .1 .ensures .1)))
     (λ w. (w .2 ∙ kept (c .before) (not-false _ (w .0 .left)), omega (arith, w .1, l .inv .2)))
     (c .if2 .came)
 
-total-near-requires : tie.Need-total-near-requires Inv-loop μ-loop
-total-near-requires c κs =
+number-near-requires : tie.Need-number-near-requires Inv-loop μ-loop
+number-near-requires c κs =
     let s = c .before .before .before .before .before .before .before .before .before .before .before .before in
-    let a = s .args in
-    let l = c .before .before .before .before .before .loop in
-    let inside : l .k < length (a .starts .now) = omega (arith, l .inv .1, c .before .before .before .before .loop-test .taken) in
-    (s .pre .0 .0, (ends-accepted (a .xs .now) (a .curve) (a .tags .now) (a .slots .now) (at (a .starts .now) (l .k)) (at (a .ends .now) (l .k)) (fine s (l .k) inside) .0, l .inv .2))
+    (s .pre .0 .0, c .before .before .before .before .before .loop .inv .2)
 
-total-near-requires-2 : tie.Need-total-near-requires-2 Inv-loop μ-loop
-total-near-requires-2 c κs =
+number-near-requires-2 : tie.Need-number-near-requires-2 Inv-loop μ-loop
+number-near-requires-2 c κs =
     let s = c .before .before .before .before .before .before .before .before .before .before .before .before in
-    let a = s .args in
-    let l = c .before .before .before .before .before .loop in
-    let inside : l .k < length (a .starts .now) = omega (arith, l .inv .1, c .before .before .before .before .loop-test .taken) in
-    (s .pre .0 .0, (ends-accepted (a .xs .now) (a .curve) (a .tags .now) (a .slots .now) (at (a .starts .now) (l .k)) (at (a .ends .now) (l .k)) (fine s (l .k) inside) .1, here c .1))
+    (s .pre .0 .0, here c .1)
 
 loop-again : tie.Need-loop-again Inv-loop μ-loop
 loop-again c =
-    let j = c .before .before in
+    let d = c .before in
+    let j = d .before in
     let s = j .before .before .before .before .before .before .before .before .before .before .before .before in
     let a = s .args in
     let l = j .before .before .before .before .before .loop in
     let t = j .before .before .before .before .loop-test .taken in
     let inside : l .k < length (a .starts .now) = omega (arith, l .inv .1, t) in
-    let to = c .before .total-near2 .ensures in
+    let to = c .or-zero2 .ensures ∙ ap orZero (d .number-near2 .ensures .0) ∙ total s (l .k) inside .1 in
     let e : l .k ≡ l .k + 1 - 1 = omega arith in (
       omega (arith, t),
       l .inv .1,
-      to .1,
+      d .number-near2 .ensures .1,
       simp length-set (l .inv .3),
       overlay-more 0 (l .k) _ _ _ _ _ (l .inv .4) (omega arith)
-          (priced-so (a .xs .now) (a .curve) (a .tags .now) (a .slots .now) (at (a .starts .now) (l .k)) (at (a .ends .now) (l .k)) _ _ (here j .0) (to .0) (fine s (l .k) inside)),
-      (λ o. to .0 ∙ ap (λ (i : ℕ). answerAt primitive (a .xs .now) (a .curve) (a .tags .now) (a .slots .now) (at (a .ends .now) i)) e),
+          (priced-so (a .xs .now) (a .curve) (a .tags .now) (a .slots .now) (at (a .starts .now) (l .k)) (at (a .ends .now) (l .k)) (fine s (l .k) inside) _ _ (here j .0) to),
+      (λ o. to ∙ ap (λ (i : ℕ). formulaAt primitive (a .xs .now) (a .curve) (a .tags .now) (a .slots .now) (at (a .ends .now) i)) e),
     )
 
 returns : tie.Need-returns Inv-loop μ-loop
@@ -114,7 +126,7 @@ returns c =
     let l = c .before .loop in
     let a = c .before .before .before .before .before .before .before .before .args in
     let e : l .k ≡ length (a .starts .now) = omega (arith, l .inv .0, l .inv .1, c .loop-test .left) in
-    l .inv .4 ∙ ap (λ (n : ℕ). overlay 0 n (λ k. answerInNumbers (stripAt (a .xs .now) (a .curve) (a .tags .now) (a .slots .now) (at (a .starts .now) k) (at (a .ends .now) k)) .answer) (a .out .now)) e
+    l .inv .4 ∙ ap (λ (n : ℕ). overlay 0 n (λ k. numberIn (stripAt (a .xs .now) (a .curve) (a .tags .now) (a .slots .now) (at (a .starts .now) k) (at (a .ends .now) k))) (a .out .now)) e
 
 pub fill-spec : {M : Type 1} → statement M
 fill-spec =
@@ -126,8 +138,10 @@ fill-spec =
     (λ c. search needs) (λ c. search needs)
     (λ c. search needs)
     (λ c. let s = c .before .before .before .before .before .before .before .before .before .before in omega (arith, s .pre .0 .1, c .before .before .before .loop .inv .1, c .before .before .loop-test .taken))
-    total-near-requires
-    total-near-requires-2
+    number-near-requires
+    (λ c κs. search needs)
+    number-near-requires-2
+    (λ c κs. search needs)
     (λ c. search needs)
     (λ c.
     let l = c .before .before .before .before .before .before .before .loop in
