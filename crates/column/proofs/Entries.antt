@@ -13,6 +13,7 @@ use borrow.Author.Tests.{eqb-true}
 use lib.Dec.{eqb}
 use lib.Ieee.{Float, lt, le}
 use lib.ListN.{length, getD, take, drop}
+use Rattle.numbers.specs.Marks.{mark}
 use Rattle.numbers.specs.Sizes.{slotCount}
 use Rattle.numbers.specs.Words.{zero, one, finite}
 use Rattle.numbers.proofs.Every.{and-right-false}
@@ -48,9 +49,8 @@ use Rattle.curve.specs.Build.{buildVerdict, wholeFrame}
 use Rattle.curve.specs.Curve.{withExtrapolation}
 use Rattle.curve.specs.declared.curve.Curve.{Curve}
 use Rattle.curve.proofs.Accepted.{accepted-sound, accepted-room}
-use Rattle.query.specs.Query.{placeOf, tailSection, answerInNumbers}
+use Rattle.query.specs.Query.{placeOf, tailSection, numberIn}
 use Rattle.query.specs.Strip.{totalTo}
-use Rattle.query.specs.declared.answer.QueryAnswer.{QueryAnswer}
 use Rattle.query.specs.declared.answer.QueryAnswer.the-variants as query-answer
 use Rattle.query.proofs.ReadBack.{answering, asked-of-built}
 use Rattle.query.proofs.Sides.{not-below, below}
@@ -116,14 +116,14 @@ module _ (x y : List Float) (method : ConvexMonotone) (hold : Bool) (seam : Seam
   abbrev pub total : ℕ → Float
   total k = primitive (answering x y whole-frame c (at x k)) (at x k)
 
-  pub asked-at : (k : ℕ) (allow : Bool) → k < length x → totalTo x (withExtrapolation c allow) (left .tags) (left .slots) (at x k) ≡ query-answer.Number (total k)
+  pub asked-at : (k : ℕ) (allow : Bool) → k < length x → totalTo x (withExtrapolation c allow) (left .tags) (left .slots) (at x k) ≡ query-answer.Number (mark (total k))
   asked-at k allow l =
       asked-of-built x y whole-frame method seam b (withExtrapolation c allow) (at x k) accepted
       (knot-number x (sound .knots) (sound .rise) k l) (knot-inside x (sound .knots) (sound .rise) (withExtrapolation c allow) k l) (λ s. primitive s (at x k))
 
   -- which is the column's entry
   pub entry-is : (k : ℕ) → k < length x → columnAt x c (left .tags) (left .slots) k ≡ total k
-  entry-is k l = ap (λ (a : QueryAnswer). answerInNumbers a .answer) (asked-at k false l)
+  entry-is k l = ap numberIn (asked-at k false l)
 
   -- ---- at the last knot the tail answers
   pub last-entry : (k : ℕ) → k + 1 ≡ length x → primitive (tailSection c) (at x k) ≡ columnAt x c (left .tags) (left .slots) k
@@ -159,7 +159,7 @@ module _ (x y : List Float) (method : ConvexMonotone) (hold : Bool) (seam : Seam
         ∙ ap (λ (j : ℕ). primitive (sectionAt x y whole-frame j) (at x i)) own-place
 
     -- ---- so the number of its record is the entry
-    number-here : numberAt x (left .tags) (left .slots) i ≡ columnAt x c (left .tags) (left .slots) i
+    pub number-here : numberAt x (left .tags) (left .slots) i ≡ columnAt x c (left .tags) (left .slots) i
     number-here =
         ap (λ (f : Found). orZero (answerIn (λ k. primitive k (at x i)) f)) (record-read-back x y whole-frame i (b .tags) (b .slots) l (spare .in-tags) (spare .in-slots))
         ∙ sym own-entry

@@ -17,10 +17,8 @@ use Rattle.table.specs.Table.{at}
 use Rattle.column.specs.Steps.{totalBefore, weighedBy, startBy, numberAt, asksAt, askedAt, entryBy}
 
 -- all entries but the last, and then that one
-pub with-last : (k n : ℕ) (f g : ℕ → Float) (old new : List Float) (v : Float) → new ≡ overlay 0 k f old → ((i : ℕ) → i < k → f i ≡ g i) → v ≡ g k → k + 1 ≡ n →
-    set new k v ≡ overlay 0 n g old
-with-last k n f g old new v e h last size =
-    overlay-more 0 k g old new k v (e ∙ overlay-same 0 k f g old h) (sym (zero-add k)) last ∙ ap (λ (j : ℕ). overlay 0 j g old) size
+pub with-last : (k n : ℕ) (f : ℕ → Float) (old new : List Float) (v : Float) → new ≡ overlay 0 k f old → v ≡ f k → k + 1 ≡ n → set new k v ≡ overlay 0 n f old
+with-last k n f old new v e last size = overlay-more 0 k f old new k v e (sym (zero-add k)) last ∙ ap (λ (j : ℕ). overlay 0 j f old) size
 
 -- a turn of the starts: the entry, by the total at hand, and the total that it leaves
 module _ (mixed : Bool) (slots : List Float) (i : ℕ) where

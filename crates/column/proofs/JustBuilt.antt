@@ -1,6 +1,6 @@
 -- What is known of a curve that was just built: its records and its tail are those of the table, so its column is told by them.
-use Prim.Native.Nat.{ℕ, _+_, _-_, _≤_, _<_}
-use mathlib.Core.Bool.{Bool, true}
+use Prim.Native.Nat.{ℕ, _+_, _-_, _<_}
+use mathlib.Core.Bool.{true}
 use mathlib.Core.List.{List}
 use mathlib.Core.Path.{_≡_, refl, sym, subst, _∙_}
 use lib.Ieee.{Float}
@@ -19,16 +19,15 @@ use Rattle.curve.specs.declared.curve.Built.{Built}
 use Rattle.curve.specs.declared.curve.Built.the-variants as built
 use Rattle.curve.specs.declared.curve.Curve.{Curve}
 use Rattle.curve.proofs.Accepted.{accepted-sound, accepted-room}
-use Rattle.query.specs.Many.{manyVerdict}
 use Rattle.query.specs.Query.{tailSection}
 use Rattle.query.proofs.Whole as whole
 use Rattle.numbers.specs.Words.{finite}
 use Rattle.numbers.proofs.Every.{and-split}
 use Rattle.numbers.proofs.Overlay.{length-overlay}
 use Rattle.column.specs.Column.{columnAt}
-use Rattle.column.specs.Steps.{modestTable, wholeTotal, readable, JustBuilt, entryAt}
-use Rattle.column.proofs.Entries.{last-entry, section-entry}
-use Rattle.column.proofs.Left.{accepted-build, knots-answer}
+use Rattle.column.specs.Steps.{modestTable, wholeTotal, readable, JustBuilt, numberAt, entryAt}
+use Rattle.column.proofs.Entries.{last-entry, number-here, section-entry}
+use Rattle.column.proofs.Left.{accepted-build}
 
 -- the curve that a build answered
 unfoldable pub curveIn : Curve → Built → Curve
@@ -57,11 +56,15 @@ module _ {x y : List Float} {method : ConvexMonotone} {seam : Seam} {curve : Cur
       subst (λ (p : Outcome Built). Room (length x) (length (j .lent .nodes)) (length (p .buffers .tags)) (length (p .buffers .slots))) (sym all)
       (rw (length-overlay, length-overlay) (accepted-room x y method seam (length (j .lent .nodes)) (length (j .lent .tags)) (length (j .lent .slots)) accepted))
 
-  -- ---- its knots are answered
-  pub answers : (n : ℕ) → length x ≤ n → manyVerdict x curve tags slots x n ≡ verdict.Accepted
-  answers n l = knots-answer x y method (j .hold) seam (j .lent) o curve n (j .is) refl l
+  -- ---- at its own left knot each section answers
+  pub numbers : (i : ℕ) → i < length x - 1 → numberAt x tags slots i ≡ columnAt x curve tags slots i
+  unfolding curveIn
+  numbers i l =
+      subst
+      (λ (p : Outcome Built). numberAt x (p .buffers .tags) (p .buffers .slots) i ≡ columnAt x (curveIn curve (p .answer)) (p .buffers .tags) (p .buffers .slots) i) (sym all)
+      (number-here x y method (j .hold) seam (j .lent) accepted i l)
 
-  -- ---- by the records of its sections
+  -- ---- in a table of ordinary size as its record tells
   pub entries : readable x y method seam slots ≡ true → (i : ℕ) → i < length x - 1 → entryAt method x tags slots i ≡ columnAt x curve tags slots i
   unfolding curveIn
   entries test i l =

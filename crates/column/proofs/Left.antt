@@ -2,7 +2,7 @@
 use Prim.Native.Nat.{ℕ, _≤_}
 use mathlib.Core.Bool.{Bool, true}
 use mathlib.Core.List.{List}
-use mathlib.Core.Path.{_≡_, refl, sym, ap, subst, _∙_}
+use mathlib.Core.Path.{_≡_, refl, sym, ap, _∙_}
 use borrow.Author.Tests.{le-ltb}
 use lib.Dec.{ltb}
 use lib.Ieee.{Float}
@@ -12,11 +12,9 @@ use Rattle.refusal.specs.declared.Verdict.{Verdict}
 use Rattle.refusal.specs.declared.Verdict.the-variants as verdict
 use Rattle.table.specs.Buffers.{Buffers, Outcome, buffers, outcome, judged}
 use Rattle.table.specs.declared.method.ConvexMonotone.{ConvexMonotone}
-use Rattle.table.specs.declared.ends.Frame.{Frame}
 use Rattle.table.specs.declared.ends.Seam.{Seam}
-use Rattle.table.proofs.Outcomes.{was-accepted, left-new}
-use Rattle.assembly.specs.Making.{after}
-use Rattle.curve.specs.Build.{buildVerdict, wholeFrame, curveOf, buildOutcome}
+use Rattle.table.proofs.Outcomes.{was-accepted}
+use Rattle.curve.specs.Build.{buildVerdict, curveOf, buildOutcome}
 use Rattle.curve.specs.declared.curve.Built.{Built}
 use Rattle.curve.specs.declared.curve.Built.the-variants as built
 use Rattle.curve.specs.declared.curve.Curve.{Curve}
@@ -24,10 +22,8 @@ use Rattle.curve.proofs.Careful.{verdictIn}
 use Rattle.growth.specs.Growth.{grown}
 use Rattle.growth.specs.declared.growth.Carried.{Carried}
 use Rattle.growth.specs.declared.growth.Carried.the-variants as carried
-use Rattle.query.specs.Many.{manyVerdict}
 use Rattle.column.specs.Column.{Columned, columned, withColumn}
 use Rattle.column.specs.Steps.{lastVerdict, columnOf, JustBuilt}
-use Rattle.column.proofs.Knots.{column-accepted}
 
 module _ (x : List Float) (b : Buffers) (column : List Float) where
   -- a short column: what refuses the build is told, and else the column
@@ -60,30 +56,16 @@ module _ (x : List Float) (b : Buffers) (column : List Float) where
   carried-on k s build o e h = rw e h
 
 module _ (x y : List Float) (method : ConvexMonotone) (hold : Bool) (seam : Seam) (b : Buffers) where
-  abbrev frame : Frame
-  frame = wholeFrame (length x) method hold seam
-
   pub short-column : (column : List Float) (answer : Built) → answer ≡ lastVerdict (buildVerdict x y method seam b) → ltb (length column) (length x) ≡ true →
       record { answer = answer; buffers = b; column = column } ≡ withColumn x b column (buildOutcome x y method hold seam b)
   unfolding curveOf
   short-column column answer e h =
       ap (λ (a : Built). record { answer = a; buffers = b; column = column }) e ∙ too-short x b column (buildVerdict x y method seam b) _ _ h
 
-  -- a curve that was answered was accepted, and left its records
+  -- a curve that was answered was accepted
   pub accepted-build : (o : Outcome Built) (c : Curve) → o ≡ buildOutcome x y method hold seam b → o .answer ≡ built.Curve c → buildVerdict x y method seam b ≡ verdict.Accepted
   unfolding curveOf
   accepted-build o c e f = was-accepted verdictIn (buildVerdict x y method seam b) built.Refused (λ r. refl) b _ refl o e (ap verdictIn f)
-
-  pub left-build : (o : Outcome Built) (c : Curve) → o ≡ buildOutcome x y method hold seam b → o .answer ≡ built.Curve c → o .buffers ≡ after 0 x y frame b
-  unfolding curveOf
-  left-build o c e f = ap (λ (p : Outcome Built). p .buffers) (left-new (buildVerdict x y method seam b) built.Refused b _ o e (accepted-build o c e f))
-
-  -- and answers at its knots
-  pub knots-answer : (o : Outcome Built) (c : Curve) (room : ℕ) → o ≡ buildOutcome x y method hold seam b → o .answer ≡ built.Curve c → length x ≤ room →
-      manyVerdict x c (o .buffers .tags) (o .buffers .slots) x room ≡ verdict.Accepted
-  knots-answer o c room e f l =
-      subst (λ (k : Buffers). manyVerdict x c (k .tags) (k .slots) x room ≡ verdict.Accepted) (sym (left-build o c e f))
-      (column-accepted x y frame method seam b c room (accepted-build o c e f) l)
 
   pub just-built : (k : Built) (n : List Float) (t : List ℕ) (s : List Float) (c : Curve) → outcome k n t s ≡ buildOutcome x y method hold seam b → k ≡ built.Curve c →
       JustBuilt x y method seam c t s

@@ -1,5 +1,6 @@
 pub mod Entries
 pub mod Filled
+pub mod FiniteStrip
 pub mod JustBuilt
 pub mod Knots
 pub mod Left
@@ -7,6 +8,5 @@ pub mod Listed
 pub mod Placed
 pub mod SameStrip
 pub mod Telescope
-pub mod Tests
 pub mod Told
 pub mod Unique

@@ -7,6 +7,8 @@ use borrow.Author.Tests.{ltb-true, ltb-false, not-false}
 use lib.Dec.{ltb}
 use lib.Ieee.{Float}
 use lib.ListN.{length}
+use Rattle.numbers.specs.Marks.{mark}
+use Rattle.numbers.specs.declared.Marked.{Marked}
 use Rattle.numbers.proofs.Every.{and-split}
 use Rattle.refusal.specs.Refusal.{first}
 use Rattle.refusal.specs.declared.Refusal.{Refusal}
@@ -29,8 +31,8 @@ placed x column i j h =
     record { high = ltb-false 4096 (length x) high; room = ltb-false column (length x) room; order = ltb-true i j before; inside = ltb-true j (length x) within }
 
 -- an answer by the verdict
-pub between : (v : Verdict) (price : Float) → v ≡ verdict.Accepted → query-answer.Number price ≡ betweenBy v price
-between v price e = rw e
+pub between : (v : Verdict) (price : Float) (m : Marked) → v ≡ verdict.Accepted → m ≡ mark price → query-answer.Number m ≡ betweenBy v price
+between v price m e f = rw (e, f)
 
 pub not-between : (v : Verdict) (r : Refusal) (price : Float) → v ≡ verdict.Refused r → query-answer.Refused r ≡ betweenBy v price
 not-between v r price e = rw e

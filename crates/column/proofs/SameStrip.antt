@@ -10,6 +10,7 @@ use denote.Ref.{now}
 use lib.Dec.{ltb}
 use lib.Ieee.{Float, nan}
 use lib.ListN.{length}
+use Rattle.numbers.specs.Marks.{mark}
 use Rattle.numbers.specs.OneOutcome.{Follows}
 use Rattle.numbers.specs.Overlay.{overlay}
 use Rattle.numbers.specs.Words.{_⊖_, _⊘_}
@@ -81,7 +82,7 @@ module _ (x y : List Float) (method : ConvexMonotone) (hold : Bool) (seam : Seam
   abbrev total : ℕ → Float
   total k = entries.total x y method hold seam b accepted k
 
-  asked-at : (k : ℕ) (allow : Bool) → k < length x → totalTo x (withExtrapolation c allow) (left .tags) (left .slots) (at x k) ≡ query-answer.Number (total k)
+  asked-at : (k : ℕ) (allow : Bool) → k < length x → totalTo x (withExtrapolation c allow) (left .tags) (left .slots) (at x k) ≡ query-answer.Number (mark (total k))
   asked-at = entries.asked-at x y method hold seam b accepted
 
   module _ (column : List Float) (room : length x ≤ length column) where
@@ -111,12 +112,12 @@ module _ (x y : List Float) (method : ConvexMonotone) (hold : Bool) (seam : Seam
     built-strip i j h l allow =
         let m : i < length x = omega (arith, h, l) in
         ap (λ (v : Verdict). betweenBy v ((at filled j ⊖ at filled i) ⊘ (at x j ⊖ at x i))) (fair i j h l)
-        ∙ ap (λ (q : Float). query-answer.Number ((q ⊖ at filled i) ⊘ (at x j ⊖ at x i))) (entry j l)
-        ∙ ap (λ (p : Float). query-answer.Number ((total j ⊖ p) ⊘ (at x j ⊖ at x i))) (entry i m)
+        ∙ ap (λ (q : Float). query-answer.Number (mark ((q ⊖ at filled i) ⊘ (at x j ⊖ at x i)))) (entry j l)
+        ∙ ap (λ (p : Float). query-answer.Number (mark ((total j ⊖ p) ⊘ (at x j ⊖ at x i)))) (entry i m)
         ∙ sym
         (ap (λ (p : QueryAnswer). stripOf (at x i) (at x j) p (totalTo x (withExtrapolation c allow) (left .tags) (left .slots) (at x j))) (asked-at i allow m)
-        ∙ ap (stripOf (at x i) (at x j) (query-answer.Number (total i))) (asked-at j allow l)
-        ∙ ap (λ (rise : Bool). cond rise (query-answer.Number ((total j ⊖ total i) ⊘ (at x j ⊖ at x i))) (query-answer.Refused StripEndsNotRising))
+        ∙ ap (stripOf (at x i) (at x j) (query-answer.Number (mark (total i)))) (asked-at j allow l)
+        ∙ ap (λ (rise : Bool). cond rise (query-answer.Number (mark ((total j ⊖ total i) ⊘ (at x j ⊖ at x i)))) (query-answer.Refused StripEndsNotRising))
         (knot-rise x (sound .knots) (sound .rise) i j h l))
 
 -- whatever a build with a column answers and leaves

@@ -1,10 +1,11 @@
--- 02, K1: the strip between two knot places, by two entries of the column.
+-- 02, K1: the strip between two knot places, by two entries of the column. K7: it is marked by its own number.
 use Prim.Native.Nat.{ℕ}
 use mathlib.Core.Bool.{not, _&&_}
 use mathlib.Core.List.{List, [], _∷_}
 use lib.Dec.{ltb}
 use lib.Ieee.{Float}
 use lib.ListN.{length}
+use Rattle.numbers.specs.Marks.{mark}
 use Rattle.numbers.specs.Words.{_⊖_, _⊘_}
 use Rattle.refusal.specs.Refusal.{Test, _⇒_, first}
 use Rattle.refusal.specs.declared.Refusal.the-variants.{TooFewPoints, KnotNotFinite, KnotsNotRising, TooManyPoints, BufferTooShort, StripEndsNotRising}
@@ -27,7 +28,7 @@ betweenTests x column i j =
     ∷ []
 
 abbrev pub betweenBy : Verdict → Float → QueryAnswer
-betweenBy verdict.Accepted price = query-answer.Number price
+betweenBy verdict.Accepted price = query-answer.Number (mark price)
 betweenBy (verdict.Refused r) price = query-answer.Refused r
 
 abbrev pub betweenAt : List Float → List Float → ℕ → ℕ → QueryAnswer

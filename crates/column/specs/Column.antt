@@ -13,11 +13,11 @@ use Rattle.table.specs.Table.{at}
 use Rattle.curve.specs.declared.curve.Built.{Built}
 use Rattle.curve.specs.declared.curve.Built.the-variants as built
 use Rattle.curve.specs.declared.curve.Curve.{Curve}
-use Rattle.query.specs.Many.{answerAt}
+use Rattle.query.specs.Many.{formulaAt}
 
--- what the `primitive` query answers at knot i; at the last knot that is the tail's number
+-- the number that the formula gives the `primitive` query at knot i, by its bits, finite or not; at the last knot that is the tail's number
 abbrev pub columnAt : List Float → Curve → List ℕ → List Float → ℕ → Float
-columnAt x curve tags slots i = answerAt primitive x curve tags slots (at x i)
+columnAt x curve tags slots i = formulaAt primitive x curve tags slots (at x i)
 
 -- an answer, and the four lent buffers as they are left
 pub record Columned : Type 0 where

@@ -4,12 +4,12 @@ use mathlib.Core.List.{List, [], _∷_}
 use lib.Ieee.{Float, binary64, ofBits}
 use Rattle.numbers.specs.Words.{_⊖_, _⊗_, zero, one, two}
 use Rattle.table.specs.Table.{at}
-use Rattle.query.specs.Query.{answerInNumbers}
+use Rattle.query.specs.Query.{numberIn}
 use Rattle.column.specs.Between.{betweenAt}
 
--- what a strip between two places comes to in all: its price times its length
+-- what a strip between two places comes to in all: its price, by its bits, times its length
 abbrev pub amount : List Float → List Float → ℕ → ℕ → Float
-amount x column i j = answerInNumbers (betweenAt x column i j) .answer ⊗ (at x j ⊖ at x i)
+amount x column i j = numberIn (betweenAt x column i j) ⊗ (at x j ⊖ at x i)
 
 -- two days, with the totals 0, 0.2 and 0.9 at their edges
 abbrev pub edges : List Float

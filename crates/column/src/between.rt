@@ -1,4 +1,5 @@
 // The strip between two knot places. It reads two entries of the column, and of the knots only what their own refusals ask.
+use numbers::mark;
 use query::answer::QueryAnswer;
 use refusal::Refusal;
 use refusal::Verdict;
@@ -35,12 +36,15 @@ fn places_verdict(xs: &[f64], column: usize, i: usize, j: usize) -> Verdict
     Verdict::Refused(Refusal::StripEndsNotRising)
 }
 
-// The average price from knot i to knot j, both counted from 0.
+// The average price from knot i to knot j, both counted from 0. It is marked by its own number, and not by those of its two ends.
 pub fn strip_between(xs: &[f64], column: &[f64], i: usize, j: usize) -> QueryAnswer
     ensures { λ r. ⌜ r ≡ betweenAt (now (xs .entry)) (now (column .entry)) i j ⌝ }
 {
     match places_verdict(xs, column.len(), i, j) {
         Verdict::Refused(refusal) => QueryAnswer::Refused(refusal),
-        Verdict::Accepted => { QueryAnswer::Number((column[j] - column[i]) / (xs[j] - xs[i])) }
+        Verdict::Accepted => {
+            let price = (column[j] - column[i]) / (xs[j] - xs[i]);
+            QueryAnswer::Number(mark(price))
+        }
     }
 }

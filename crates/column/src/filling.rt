@@ -3,7 +3,6 @@
 use curve::curve::Curve;
 use numbers::SLOTS;
 use numbers::is_finite;
-use query::many::primitives;
 use record::knots::TOTAL_AFTER;
 use record::number::primitive_in;
 use record::tag::is_split;
@@ -21,7 +20,7 @@ ghost use Rattle.numbers.specs.Sizes.{slotCount};
 ghost use Rattle.choice.specs.Starts.{mixing};
 ghost use Rattle.assembly.specs.Starts.{priceModest, seamModest, periodModest};
 ghost use Rattle.column.specs.Column.{columnAt};
-ghost use Rattle.column.specs.Steps.{modestTable, readable, JustBuilt, weighedBy, totalBefore, startBy, entryBy, entryAt, Listed, Within, Asked};
+ghost use Rattle.column.specs.Steps.{modestTable, readable, JustBuilt, weighedBy, totalBefore, startBy, numberAt, entryBy, entryAt, Listed, Within, Asked};
 
 // How many sections are listed at a time.
 const BLOCK: usize = 64;
@@ -214,6 +213,18 @@ fn fill_sections(
     }
 }
 
+// The same entries where they can't be read off the records: each section is asked for its own number, which stands by its bits, finite or not.
+fn ask_sections(xs: &[f64], tags: &[u16], slots: &[f64], sections: usize, column: &mut [f64])
+    requires { ⌜ (sections ≤ length (now xs)) × (sections ≤ length (now tags)) × (slotCount * sections ≤ length (now slots)) × (sections ≤ length (now column)) × (sections ≤ 4096) ⌝ }
+    ensures { λ _. ⌜ now (column .exit) ≡ overlay 0 sections (numberAt (now (xs .entry)) (now (tags .entry)) (now (slots .entry))) (now (column .entry)) ⌝ }
+{
+    for i in 0..sections {
+        let from = SLOTS * i;
+        let answer = primitive_in(tags[i], &slots[from..from + SLOTS], xs[i]);
+        column[i] = answer.or_zero();
+    }
+}
+
 // Writes the column of a curve that was just built of this table. At the last knot the tail answers.
 pub(crate) fn fill(
     xs: &[f64],
@@ -229,12 +240,12 @@ pub(crate) fn fill(
     requires { ⌜ JustBuilt (now xs) (now ys) method seam curve (now tags) (now slots) ⌝ }
     ensures { λ _. ⌜ now (column .exit) ≡ overlay 0 (length (now (xs .entry))) (columnAt (now (xs .entry)) curve (now (tags .entry)) (now (slots .entry))) (now (column .entry)) ⌝ }
 {
-    if !is_readable(xs, ys, method, seam, slots) {
-        let _ = primitives(xs, curve, tags, slots, xs, column);
-        return;
-    }
     let last = xs.len() - 1;
-    fill_sections(xs, method, tags, slots, last, column);
+    if is_readable(xs, ys, method, seam, slots) {
+        fill_sections(xs, method, tags, slots, last, column);
+    } else {
+        ask_sections(xs, tags, slots, last, column);
+    }
     let tail = curve.tail;
     let constant = EverywhereConstant::new(tail.value, tail.total, tail.from);
     column[last] = constant.primitive(xs[last]);

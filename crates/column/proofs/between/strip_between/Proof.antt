@@ -25,5 +25,6 @@ strip-between-spec =
     (λ c. let p = fair (c .before .before .before) in p .inside)
     (λ c. let p = fair (c .before .before .before) in omega (arith, p .high, p .order, p .inside))
     (λ c. let p = fair (c .before .before .before .before) in omega (arith, p .order, p .inside))
+    (λ c κs. search needs)
     (λ c. not-between _ _ _ (sym (c .before .before .before .places-verdict .ensures) ∙ c .before .refusal .given .1))
-    (λ c. between _ _ (sym (c .before .before .before .before .before .before .places-verdict .ensures) ∙ c .before .before .before .before .enum-told .given .1)))
+    (λ c. between _ _ _ (sym (c .before .before .before .before .before .before .before .places-verdict .ensures) ∙ c .before .before .before .before .before .enum-told .given .1) (c .mark .ensures)))

@@ -8,10 +8,9 @@ use lib.Ieee.{le}
 use lib.ListN.{length}
 use Rattle.numbers.specs.Every.{allBelow}
 use Rattle.numbers.specs.Words.{_⊖_}
-use Rattle.numbers.proofs.Every.{all-none}
+use Rattle.numbers.proofs.Every.{all-none, all-and}
 use Rattle.table.specs.Table.{at}
 use Rattle.assembly.specs.Starts.{shortest, periodModest}
-use Rattle.column.proofs.Tests.{all-and}
 use Rattle.column.proofs.filling.are_modest_periods.Statement.{statement}
 use Rattle.column.proofs.filling.are_modest_periods.Tie as tie
 
