@@ -16,18 +16,21 @@ use Rattle.refusal.proofs.First.{first-append}
 use Rattle.section.specs.declared.section.Section.{Section}
 use Rattle.curve.specs.declared.curve.Curve.{Curve}
 use Rattle.query.specs.Many.{manyTests}
-use Rattle.query.specs.Query.{curveTests, pointTests, queryTests, covering, coveredOf, coveredAt, ask}
+use Rattle.query.specs.Query.{curveTests, pointTests, queryTests, covering, coveredOf, coveredAt, ask, numberIn, verdictIn, answerBy}
 use Rattle.query.specs.declared.answer.QueryAnswer.{QueryAnswer}
 use Rattle.query.specs.declared.answer.QueryAnswer.the-variants as query-answer
-use Rattle.export_query.specs.Asking.{askedBy, leftBy, answerInto}
+use Rattle.export_query.specs.Asking.{askedBy, leftOf, leftBy, answerInto}
 
--- a query's answer: refused, or written
+-- a query's answer, by what refuses it: refused, or written
 module _ (k : QueryAnswer) (old : List Float) where
-  pub query-refused : (r : Refusal) (n : ℕ) → k ≡ query-answer.Refused r → n ≡ number r → pair n old ≡ leftBy k old
-  query-refused r n e f = rw (e, f)
+  by-verdict : (v : Verdict) → v ≡ verdictIn k → pair (answerBy v (numberIn k) .refusal) (leftOf v (numberIn k) old) ≡ leftBy k old
+  by-verdict v e = ap (λ (w : Verdict). pair (answerBy w (numberIn k) .refusal) (leftOf w (numberIn k) old)) e
 
-  pub query-written : (v : Float) → k ≡ query-answer.Number v → pair 0 (set old 0 v) ≡ leftBy k old
-  query-written v e = rw e
+  pub query-refused : (v : Verdict) (r : Refusal) (n : ℕ) → v ≡ verdictIn k → v ≡ verdict.Refused r → n ≡ number r → pair n old ≡ leftBy k old
+  query-refused v r n e f g = ap (λ (m : ℕ). pair m old) g ∙ by-verdict (verdict.Refused r) (sym f ∙ e)
+
+  pub query-written : (v : Verdict) (m : Float) → v ≡ verdictIn k → v ≡ verdict.Accepted → m ≡ numberIn k → pair 0 (set old 0 m) ≡ leftBy k old
+  query-written v m e f g = ap (λ (w : Float). pair 0 (set old 0 w)) g ∙ by-verdict verdict.Accepted (sym f ∙ e)
 
 -- the tests of a curve, then of the slice
 module _ (x : List Float) (tags slots : ℕ) where

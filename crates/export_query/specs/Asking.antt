@@ -1,4 +1,4 @@
--- 01, Queries, settings and growth: where a query's answer goes
+-- 01, Queries, settings and growth: where a query's answer goes. 02, K7: a number that is not finite is not written.
 use Prim.Native.Nat.{ℕ}
 use mathlib.Core.List.{List}
 use lib.Ieee.{Float}
@@ -8,7 +8,7 @@ use Rattle.refusal.specs.Refusal.{first}
 use Rattle.refusal.specs.declared.Verdict.{Verdict}
 use Rattle.refusal.specs.declared.Verdict.the-variants as verdict
 use Rattle.query.specs.Many.{manyTests}
-use Rattle.query.specs.Query.{answerInNumbers}
+use Rattle.query.specs.Query.{numberIn, verdictIn, answerInNumbers}
 use Rattle.query.specs.declared.answer.QueryAnswer.{QueryAnswer}
 use Rattle.query.specs.declared.answer.QueryAnswer.the-variants as query-answer
 
@@ -17,9 +17,13 @@ abbrev pub askedBy : Verdict → QueryAnswer → QueryAnswer
 askedBy verdict.Accepted asked = asked
 askedBy (verdict.Refused r) asked = query-answer.Refused r
 
+-- a number is written where nothing refuses it
+abbrev pub leftOf : Verdict → Float → List Float → List Float
+leftOf verdict.Accepted v old = set old 0 v
+leftOf (verdict.Refused r) v old = old
+
 abbrev pub numberLeft : QueryAnswer → List Float → List Float
-numberLeft (query-answer.Number v) old = set old 0 v
-numberLeft (query-answer.Refused r) old = old
+numberLeft k old = leftOf (verdictIn k) (numberIn k) old
 
 -- what comes back for an answer, and what its slice holds afterwards
 abbrev pub leftBy : QueryAnswer → List Float → ℕ × List Float

@@ -14,15 +14,15 @@ ghost use Rattle.query.specs.Query.{ask, coveredAt, curveWith};
 ghost use Rattle.query.specs.Many.{manyTests};
 ghost use Rattle.export_query.specs.Asking.{leftBy, answerInto};
 
-// An answer in numbers, written into a slice that has room for it.
+// An answer in numbers, written into a slice that has room for it. A number that is not finite is refused, and not written.
 fn write_answer(asked: QueryAnswer, answer: &mut [f64]) -> u8
     requires { ⌜ 1 ≤ length (now answer) ⌝ }
     ensures { λ r. ⌜ pair r (now (answer .exit)) ≡ leftBy asked (now (answer .entry)) ⌝ }
 {
-    match asked {
-        QueryAnswer::Refused(refusal) => refusal.number(),
-        QueryAnswer::Number(number) => {
-            answer[0] = number;
+    match asked.verdict() {
+        Verdict::Refused(refusal) => refusal.number(),
+        Verdict::Accepted => {
+            answer[0] = asked.number();
             0
         }
     }

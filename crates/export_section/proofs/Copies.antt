@@ -1,13 +1,15 @@
 -- A record across the boundary: what is returned and written of it, case by case.
-use Prim.Native.Nat.{ℕ, _-_, _*_, _≤_}
+use Prim.Native.Nat.{ℕ, _-_, _*_, _≤_, _<_}
 use native.Mathlib.Omega.{arith}
 use mathlib.Core.Bool.{Bool, true, false, _||_}
 use mathlib.Core.List.{List, [], _∷_}
 use mathlib.Core.Path.{_≡_, refl, sym, ap, _∙_}
-use borrow.Author.Tests.{ltb-false, lt-leb}
+use borrow.Author.Tests.{ltb-false, lt-ltb, le-ltb, lt-leb}
 use lib.Dec.{ltb, leb}
 use lib.Ieee.{Float}
 use lib.ListN.{length, set, take, drop, length-take, length-drop}
+use Rattle.numbers.specs.Marks.{mark}
+use Rattle.numbers.specs.declared.Marked.{Marked}
 use Rattle.numbers.specs.OneOutcome.{pair}
 use Rattle.numbers.specs.Sizes.{slotCount}
 use Rattle.section.specs.Section as section
@@ -21,18 +23,31 @@ use Rattle.refusal.specs.declared.Refusal.the-variants.{TooFewPoints, TooManyPo
 use Rattle.refusal.specs.declared.Verdict.{Verdict}
 use Rattle.refusal.specs.declared.Verdict.the-variants as verdict
 use Rattle.record.proofs.InRange.{in-range}
-use Rattle.export_section.specs.Records.{copied, copyVerdict, copiedBy, sectionInto}
+use Rattle.export_section.specs.Records.{copied, copyVerdict, copiedBy, answered, sectionInto}
 
--- a record's own answers: no room for them, not legal, or written
-module _ (f : Found) (x : Float) (old : List Float) where
-  pub section-short : (n : ℕ) → ltb (length old) 3 ≡ true → n ≡ number BufferTooShort → pair n old ≡ sectionInto f x old
+-- a record's own answers and their marks: no room for the one or the other, not legal, or written
+module _ (old : List Float) (marks : List Bool) where
+  abbrev unroomy : Bool
+  unroomy = ltb (length old) 3 || ltb (length marks) 2
+
+  pub enough : 3 ≤ length old → 2 ≤ length marks → unroomy ≡ false
+  enough g h = rw (le-ltb (length old) 3 g, le-ltb (length marks) 2 h)
+
+module _ (f : Found) (x : Float) (old : List Float) (marks : List Bool) where
+  section-short : (n : ℕ) → unroomy old marks ≡ true → n ≡ number BufferTooShort → answered n old marks ≡ sectionInto f x old marks
   section-short n h k = rw (h, k)
 
-  pub section-illegal : (n : ℕ) → ltb (length old) 3 ≡ false → f ≡ found.Illegal → n ≡ number RecordNotLegal → pair n old ≡ sectionInto f x old
+  pub answers-short : (n : ℕ) → length old < 3 → n ≡ number BufferTooShort → answered n old marks ≡ sectionInto f x old marks
+  answers-short n h k = section-short n (rw (lt-ltb (length old) 3 h)) k
+
+  pub marks-short : (n : ℕ) → 3 ≤ length old → length marks < 2 → n ≡ number BufferTooShort → answered n old marks ≡ sectionInto f x old marks
+  marks-short n g h k = section-short n (rw (le-ltb (length old) 3 g, lt-ltb (length marks) 2 h)) k
+
+  pub section-illegal : (n : ℕ) → unroomy old marks ≡ false → f ≡ found.Illegal → n ≡ number RecordNotLegal → answered n old marks ≡ sectionInto f x old marks
   section-illegal n h e k = rw (h, e, k)
 
-  pub section-written : (s : Section) (v p w : Float) → ltb (length old) 3 ≡ false → f ≡ found.Section s → v ≡ section.value s x → p ≡ section.primitive s x → w ≡ section.«f_next» s →
-      pair 0 (set (set (set old 0 v) 1 p) 2 w) ≡ sectionInto f x old
+  pub section-written : (s : Section) (v p : Marked) (w : Float) → unroomy old marks ≡ false → f ≡ found.Section s → v ≡ mark (section.value s x) → p ≡ mark (section.primitive s x) →
+      w ≡ section.«f_next» s → answered 0 (set (set (set old 0 (v .number)) 1 (p .number)) 2 w) (set (set marks 0 (v .finite)) 1 (p .finite)) ≡ sectionInto f x old marks
   section-written s v p w h e ev ep ew = rw (h, e, ev, ep, ew)
 
 or-none-right : (b : Bool) → (b || false) ≡ b

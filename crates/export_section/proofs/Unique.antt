@@ -3,6 +3,7 @@ use mathlib.Core.Path.{_∙_, sym}
 use denote.Ref.{now}
 use Rattle.numbers.specs.OneOutcome.{OneOutcome, pair}
 use Rattle.export_section.specs.Kinds.{across}
+use Rattle.export_section.specs.Records.{answered}
 use Rattle.export_section.proofs.kinds.havgrunel_everywhere_constant.Reads as havgrunel-everywhere-constant
 use Rattle.export_section.proofs.kinds.havgrunel_constant_grad.Reads as havgrunel-constant-grad
 use Rattle.export_section.proofs.kinds.havgrunel_convex_monotone2.Reads as havgrunel-convex-monotone2
@@ -53,5 +54,5 @@ havgrunel-quadratic-min-safe-unique κ a r₁ r₂ s t p q = p ∙ sym q
 pub havgrunel-record-unique : OneOutcome havgrunel-record.Post (λ κ r s. let (_, (_, (_, (into, _)))) = s in pair r (now into))
 havgrunel-record-unique κ a r₁ r₂ s t p q = p ∙ sym q
 
-pub havgrunel-section-unique : OneOutcome havgrunel-section.Post (λ κ r s. let (_, (_, (_, (answer, _)))) = s in pair r (now answer))
+pub havgrunel-section-unique : OneOutcome havgrunel-section.Post (λ κ r s. let (_, (_, (_, (answer, (finite, _))))) = s in answered r (now answer) (now finite))
 havgrunel-section-unique κ a r₁ r₂ s t p q = p ∙ sym q

@@ -13,7 +13,7 @@ ghost use Rattle.numbers.specs.OneOutcome.{pair};
 ghost use Rattle.record.specs.Reading.{readSection};
 ghost use Rattle.record.specs.Reader.{recordVerdict};
 ghost use Rattle.refusal.specs.Refusal.{verdictNumber, andThen};
-ghost use Rattle.export_section.specs.Records.{copied, copyVerdict, copiedBy, sectionInto};
+ghost use Rattle.export_section.specs.Records.{copied, copyVerdict, copiedBy, answered, sectionInto};
 
 // So many numbers, from the start of one slice to the start of another.
 pub(crate) fn copy(count: usize, from: &[f64], to: &mut [f64])
@@ -58,20 +58,33 @@ pub extern "C" fn havgrunel_record(
 }
 
 // What the section of a record answers by itself: its value and its primitive at x, and the node that it ends on, into the first three entries
-// of `answer`.
+// of `answer`. All three are what the formulas gave, so the first two entries of `finite` say whether the value is finite, and whether the primitive is.
 #[no_mangle]
-pub extern "C" fn havgrunel_section(tag: u16, slots: &[f64], x: f64, answer: &mut [f64]) -> u8
-    ensures { λ r. ⌜ pair r (now (answer .exit)) ≡ sectionInto (readSection tag (now (slots .entry))) x (now (answer .entry)) ⌝ }
+pub extern "C" fn havgrunel_section(
+    tag: u16,
+    slots: &[f64],
+    x: f64,
+    answer: &mut [f64],
+    finite: &mut [bool],
+) -> u8
+    ensures { λ r. ⌜ answered r (now (answer .exit)) (now (finite .exit)) ≡ sectionInto (readSection tag (now (slots .entry))) x (now (answer .entry)) (now (finite .entry)) ⌝ }
 {
     if answer.len() < 3 {
+        return Refusal::BufferTooShort.number();
+    }
+    if finite.len() < 2 {
         return Refusal::BufferTooShort.number();
     }
     match read_section(tag, slots) {
         Found::Illegal => Refusal::RecordNotLegal.number(),
         Found::Section(section) => {
-            answer[0] = section.value(x);
-            answer[1] = section.primitive(x);
+            let value = section.value(x);
+            let primitive = section.primitive(x);
+            answer[0] = value.number;
+            answer[1] = primitive.number;
             answer[2] = section.f_next();
+            finite[0] = value.finite;
+            finite[1] = primitive.finite;
             0
         }
     }

@@ -6,6 +6,7 @@ use Rattle.export_strip.proofs.asking.havgrunel_strip.Reads as havgrune
 use Rattle.export_strip.proofs.asking.havgrunel_strips.Reads as havgrunel-strips
 use Rattle.export_strip.proofs.asking.havgrunel_strip_run.Reads as havgrunel-strip-run
 use Rattle.export_strip.proofs.places.havgrunel_strip_between.Reads as havgrunel-strip-between
+use Rattle.export_strip.proofs.places.havgrunel_column_entry.Reads as havgrunel-column-entry
 
 pub havgrunel-strip-unique : OneOutcome havgrunel-strip.Post (λ κ r s. let (_, (_, (_, (_, (_, (_, (_, (_, (_, (answer, _)))))))))) = s in pair r (now answer))
 havgrunel-strip-unique κ a r₁ r₂ s t p q = p ∙ sym q
@@ -18,3 +19,6 @@ havgrunel-strip-run-unique κ a r₁ r₂ s t p q = p ∙ sym q
 
 pub havgrunel-strip-between-unique : OneOutcome havgrunel-strip-between.Post (λ κ r s. let (_, (_, (_, (_, (answer, _))))) = s in pair r (now answer))
 havgrunel-strip-between-unique κ a r₁ r₂ s t p q = p ∙ sym q
+
+pub havgrunel-column-entry-unique : OneOutcome havgrunel-column-entry.Post (λ κ r s. let (_, (_, (answer, _))) = s in pair r (now answer))
+havgrunel-column-entry-unique κ a r₁ r₂ s t p q = p ∙ sym q

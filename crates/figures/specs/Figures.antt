@@ -1,4 +1,4 @@
--- 01, Figures to agree with: p1 to p10 in one table, and 02, K3: careful p6. A row has the figure's number, what the definitions give that the contracts cite, and what the document says;
+-- 01, Figures to agree with: p1 to p10 in one table, and 02, K3: careful p6, and K7: p8's NaN is marked, and a query of it refused. A row has the figure's number, what the definitions give that the contracts cite, and what the document says;
 -- floats by their bits.
 use Prim.Native.Nat as nat
 use Prim.Native.Nat.{ℕ, suc, _+_, _*_}
@@ -7,6 +7,7 @@ use mathlib.Core.List.{List, [], _∷_}
 use lib.Dec.{eqb}
 use lib.Ieee.{Float, nan, binary64, ofBits, toBits, neg}
 use lib.ListN.{length, getD, replicate}
+use Rattle.numbers.specs.Marks.{mark}
 use Rattle.numbers.specs.Sizes.{slotCount}
 use Rattle.numbers.specs.Words.{zero, half, one, two, three, four, sevenTenths}
 use Rattle.root.specs.Root.{root}
@@ -34,6 +35,7 @@ use Rattle.curve.specs.declared.curve.Built.the-variants as built
 use Rattle.curve.specs.declared.curve.Curve.{Curve}
 use Rattle.curve.specs.declared.curve.CurveInNumbers.{CurveInNumbers}
 use Rattle.query.specs.declared.answer.AnswerInNumbers.{AnswerInNumbers}
+use Rattle.query.specs.declared.answer.Covered.the-variants as covered
 use Rattle.sheets.specs.Sheet.{sheetOutcome}
 
 pub record Row : Type 0 where
@@ -149,6 +151,10 @@ abbrev chosen : ConvexMonotone → Float → Float → Float → Section
 chosen m before after average =
     sectionOf m (record { «x_prev» = zero; «x_next» = one; «f_prev» = before; «f_next» = after; «f_average» = average; «prev_primitive» = zero })
 
+-- what a query is answered that such a section covers
+abbrev covers : Section → Float → AnswerInNumbers
+covers s q = answerInNumbers (ask (λ z. section.value z q) (covered.Section s))
+
 abbrev slotOf : Section → ℕ → ℕ
 slotOf s k = bits (getD (slotsOf s) k nan)
 
@@ -189,6 +195,9 @@ table =
     ∷ row 8 (tagOf (chosen m2 two one one)) 0x0500
     ∷ row 8 (slotOf (chosen m2 two one one) 18) 0x0000_0000_0000_0000
     ∷ row 8 (bits (section.value (chosen m2 two one one) zero)) 0x7ff8_0000_0000_0000
+    ∷ row 8 (flag (mark (section.value (chosen m2 two one one) zero) .finite)) 0
+    ∷ row 8 (covers (chosen m2 two one one) zero .refusal) 21
+    ∷ row 8 (bits (covers (chosen m2 two one one) zero .answer)) 0x0000_0000_0000_0000
     ∷ row 9 (bits (root (ofBits binary64 0x40a2_0000_0000_0000))) 0x4048_0000_0000_0000
     ∷ row 9 (bits (root (ofBits binary64 0x4000_0000_0000_0000))) 0x3ff6_a09e_667f_3bcd
     ∷ row 9 (bits (root (ofBits binary64 0x0000_0000_0000_0001))) 0x1e60_0000_0000_0000

@@ -1,45 +1,66 @@
--- What a query is answered, by whether there is a section that answers it.
+-- What a query is answered, by what refuses its value and its primitive.
 use Prim.Native.Nat.{ℕ}
-use mathlib.Core.Bool.{Bool, true, false}
+use mathlib.Core.Bool.{Bool, true, false, cond, _&&_}
+use mathlib.Core.List.{List}
 use mathlib.Core.Path.{_≡_, refl, sym, ap, _∙_}
-use lib.Ieee.{Float, binary64, ofBits, toBits}
-use Rattle.numbers.specs.Words.{zero}
-use Rattle.numbers.proofs.Ways.{never}
+use lib.Ieee.{Float, binary64, toBits}
+use Rattle.numbers.specs.Words.{finite}
+use Rattle.section.specs.Section.{value, primitive}
 use Rattle.section.specs.declared.section.Section.{Section}
+use Rattle.refusal.specs.Refusal.{number, andThen}
 use Rattle.refusal.specs.declared.Refusal.{Refusal}
-use Rattle.query.specs.Query.{ask, answerInNumbers}
+use Rattle.refusal.specs.declared.Refusal.the-variants.{NotFinite}
+use Rattle.refusal.specs.declared.Verdict.{Verdict}
+use Rattle.refusal.specs.declared.Verdict.the-variants as verdict
+use Rattle.curve.specs.declared.curve.Curve.{Curve}
+use Rattle.query.specs.Query.{coveredAt, ask, numberIn, verdictIn}
 use Rattle.query.specs.declared.answer.Covered.{Covered}
 use Rattle.query.specs.declared.answer.Covered.the-variants as covered
 use Rattle.query.specs.declared.answer.QueryAnswer.{QueryAnswer}
-use Rattle.query.specs.declared.answer.QueryAnswer.the-variants as query-answer
+use Rattle.order.specs.Answer.{refusedLine, lineBy, lineFor, lineOf}
 use Rattle.order.specs.declared.asking.Line.{Line}
 
-abbrev lineFor : QueryAnswer → QueryAnswer → Line
-lineFor v p = record { refusal = answerInNumbers v .refusal; value = toBits binary64 (answerInNumbers v .answer); primitive = toBits binary64 (answerInNumbers p .answer) }
+-- an answer's verdict is that of its definition
+same-verdict : (asked k : QueryAnswer) (a b : Verdict) → asked ≡ k → a ≡ verdictIn asked → a ≡ b → verdictIn k ≡ b
+same-verdict asked k a b e h g = ap verdictIn (sym e) ∙ sym h ∙ g
 
-zero-bits : toBits binary64 zero ≡ 0
-unfolding toBits ofBits
-zero-bits = refl
+module _ (x : List Float) (c : Curve) (tags : List ℕ) (slots : List Float) (q : Float) where
+  abbrev price : QueryAnswer
+  price = ask (λ s. value s q) (coveredAt x c tags slots q)
 
-abbrev isNumber : QueryAnswer → Bool
-isNumber (query-answer.Number v) = true
-isNumber (query-answer.Refused r) = false
+  abbrev total : QueryAnswer
+  total = ask (λ s. primitive s q) (coveredAt x c tags slots q)
 
--- refused: zeros, and the primitive is refused alike
-pub none : (f g : Section → Float) (k : Covered) (v : QueryAnswer) (r : Refusal) (n : ℕ) → v ≡ ask f k → v ≡ query-answer.Refused r → n ≡ answerInNumbers v .refusal →
-    record { refusal = n; value = 0; primitive = 0 } ≡ lineFor (ask f k) (ask g k)
-none f g (covered.Section s) v r n e h m = never (ap isNumber e) (ap isNumber h)
-none f g (covered.Refused q) v r n e h m = rw (m, e, zero-bits)
+  abbrev by : Verdict → Verdict → Line
+  by a b = lineBy (andThen a b) (numberIn price) (numberIn total)
 
--- the second is there where the first is
-pub not-second : {A : Type 0} (f g : Section → Float) (k : Covered) (v p : QueryAnswer) (a : Float) (r : Refusal) → v ≡ ask f k → p ≡ ask g k → v ≡ query-answer.Number a → p ≡ query-answer.Refused r → A
-not-second f g (covered.Section s) v p a r e d h i = never (ap isNumber d) (ap isNumber i)
-not-second f g (covered.Refused q) v p a r e d h i = never (ap isNumber h) (ap isNumber e)
+  -- what refuses the value
+  pub first-refused : (v : QueryAnswer) (a : Verdict) (r : Refusal) (l : Line) → v ≡ price → a ≡ verdictIn v → a ≡ verdict.Refused r → l ≡ refusedLine r → l ≡ lineOf x c tags slots q
+  first-refused v a r l e h g m = m ∙ sym (ap (λ (w : Verdict). by w (verdictIn total)) (same-verdict v price a (verdict.Refused r) e h g))
 
-abbrev number : QueryAnswer → Float
-number (query-answer.Number v) = v
-number (query-answer.Refused r) = zero
+  module _ (v p : QueryAnswer) (a b : Verdict) (e : v ≡ price) (d : p ≡ total) (h : a ≡ verdictIn v) (g : a ≡ verdict.Accepted) (i : b ≡ verdictIn p) where
+    after : lineOf x c tags slots q ≡ by verdict.Accepted (verdictIn total)
+    after = ap (λ (w : Verdict). by w (verdictIn total)) (same-verdict v price a verdict.Accepted e h g)
 
-pub both : (f g : Section → Float) (k : Covered) (v p : QueryAnswer) (a b : Float) (m n : ℕ) → v ≡ ask f k → p ≡ ask g k → v ≡ query-answer.Number a → p ≡ query-answer.Number b →
-    m ≡ toBits binary64 a → n ≡ toBits binary64 b → record { refusal = 0; value = m; primitive = n } ≡ lineFor (ask f k) (ask g k)
-both f g k v p a b m n e d h i em en = rw (em, en, sym e ∙ h, sym d ∙ i)
+    -- a value that is accepted, and what refuses the primitive
+    pub second-refused : (r : Refusal) (l : Line) → b ≡ verdict.Refused r → l ≡ refusedLine r → l ≡ lineOf x c tags slots q
+    second-refused r l j m = m ∙ sym (after ∙ ap (λ (w : Verdict). by verdict.Accepted w) (same-verdict p total b (verdict.Refused r) d i j))
+
+    -- both are accepted
+    pub both : (y z : Float) (m n : ℕ) → b ≡ verdict.Accepted → y ≡ numberIn v → z ≡ numberIn p → m ≡ toBits binary64 y → n ≡ toBits binary64 z →
+        record { refusal = 0; value = m; primitive = n } ≡ lineOf x c tags slots q
+    both y z m n j ey ez em en =
+        rw (em, en, ey ∙ ap numberIn e, ez ∙ ap numberIn d) (sym (after ∙ ap (λ (w : Verdict). by verdict.Accepted w) (same-verdict p total b verdict.Accepted d i j)))
+
+-- of a section that answers: 21 exactly where its value or its primitive is not finite
+by-marks : (a b : Bool) (v p : Float) →
+    lineBy (andThen (cond a verdict.Accepted (verdict.Refused NotFinite)) (cond b verdict.Accepted (verdict.Refused NotFinite))) v p .refusal ≡ cond (a && b) 0 (number NotFinite)
+by-marks true true v p = refl
+by-marks true false v p = refl
+by-marks false b v p = refl
+
+pub both-finite : (x : List Float) (c : Curve) (tags : List ℕ) (slots : List Float) (q : Float) (s : Section) → coveredAt x c tags slots q ≡ covered.Section s →
+    lineOf x c tags slots q .refusal ≡ cond (finite (value s q) && finite (primitive s q)) 0 (number NotFinite)
+both-finite x c tags slots q s e =
+    ap (λ (k : Covered). lineFor (ask (λ z. value z q) k) (ask (λ z. primitive z q) k) .refusal) e
+    ∙ by-marks (finite (value s q)) (finite (primitive s q)) (value s q) (primitive s q)

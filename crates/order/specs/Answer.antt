@@ -1,4 +1,4 @@
--- 01, The order program: the text that answers an order.
+-- 01, The order program: the text that answers an order. 02, K7: a query with a number that is not finite is refused.
 use Prim.Native.Nat.{ℕ, _+_, _-_, _*_, _/_, _%_}
 use mathlib.Core.Bool.{cond}
 use mathlib.Core.List.{List}
@@ -9,14 +9,18 @@ use Rattle.numbers.specs.OneOutcome.{pair}
 use Rattle.numbers.specs.Overlay.{overlay}
 use Rattle.numbers.specs.Sizes.{slotCount}
 use Rattle.numbers.specs.Words.{zero}
-use Rattle.refusal.specs.Refusal.{number}
+use Rattle.refusal.specs.Refusal.{number, andThen}
+use Rattle.refusal.specs.declared.Refusal.{Refusal}
 use Rattle.refusal.specs.declared.Refusal.the-variants.{BufferTooShort, OrderMalformed}
+use Rattle.refusal.specs.declared.Verdict.{Verdict}
+use Rattle.refusal.specs.declared.Verdict.the-variants as verdict
 use Rattle.section.specs.Section.{value, primitive}
 use Rattle.table.specs.Buffers.{Buffers, Outcome, buffers}
 use Rattle.table.specs.declared.ends.Seam.the-variants as seam
 use Rattle.curve.specs.Build.{buildOutcome}
 use Rattle.curve.specs.Curve.{withExtrapolation}
-use Rattle.query.specs.Query.{coveredAt, ask, answerInNumbers}
+use Rattle.query.specs.Query.{coveredAt, ask, numberIn, verdictIn}
+use Rattle.query.specs.declared.answer.QueryAnswer.{QueryAnswer}
 use Rattle.curve.specs.declared.curve.Curve.{Curve}
 use Rattle.curve.specs.declared.curve.Built.{Built}
 use Rattle.curve.specs.declared.curve.Built.the-variants as built
@@ -26,12 +30,21 @@ use Rattle.order.specs.declared.asking.Line.{Line}
 use Rattle.order.specs.declared.answer.OrderAnswer.{OrderAnswer}
 use Rattle.order.specs.declared.answer.OrderAnswer.the-variants as order-answer
 
--- what a query is answered: a refusal's number with zeros, or 0 with the bits of its value and of its primitive
+-- a refusal's number with zeros, or 0 with the bits of a value and of a primitive
+abbrev pub refusedLine : Refusal → Line
+refusedLine r = record { refusal = number r; value = 0; primitive = 0 }
+
+abbrev pub lineBy : Verdict → Float → Float → Line
+lineBy verdict.Accepted v p = record { refusal = 0; value = toBits binary64 v; primitive = toBits binary64 p }
+lineBy (verdict.Refused r) v p = refusedLine r
+
+-- what refuses the value comes first, then what refuses the primitive: they share all refusals but 21, which each has by its own number
+abbrev pub lineFor : QueryAnswer → QueryAnswer → Line
+lineFor v p = lineBy (andThen (verdictIn v) (verdictIn p)) (numberIn v) (numberIn p)
+
+-- what a query is answered
 abbrev pub lineOf : List Float → Curve → List ℕ → List Float → Float → Line
-lineOf x c tags slots q =
-    let v = answerInNumbers (ask (λ s. value s q) (coveredAt x c tags slots q)) in
-    let p = answerInNumbers (ask (λ s. primitive s q) (coveredAt x c tags slots q)) in
-    record { refusal = v .refusal; value = toBits binary64 (v .answer); primitive = toBits binary64 (p .answer) }
+lineOf x c tags slots q = lineFor (ask (λ s. value s q) (coveredAt x c tags slots q)) (ask (λ s. primitive s q) (coveredAt x c tags slots q))
 
 -- byte i of all lines of queries in a row; the first query stands at place `from` of the order
 abbrev pub lineByte : List ℕ → ℕ → List Float → Curve → List ℕ → List Float → ℕ → ℕ

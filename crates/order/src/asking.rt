@@ -1,10 +1,11 @@
 // What a query of an order is answered.
 use curve::curve::Curve;
-use query::answer::QueryAnswer;
 use query::single::primitive;
 use query::single::value;
+use refusal::Refusal;
+use refusal::Verdict;
 ghost use mathlib.Core.Path.{_≡_};
-ghost use Rattle.order.specs.Answer.{lineOf};
+ghost use Rattle.order.specs.Answer.{refusedLine, lineOf};
 
 // A query's refusal, or 0, and the bits of its two numbers, which are 0 where it is refused.
 pub(crate) struct Line {
@@ -19,29 +20,35 @@ pub(crate) fn wide(b: u8) -> u64
     b as u64
 }
 
-// Both numbers are there or neither is, so the second one never leaves early.
+// No number stands beside a refusal.
+fn refused(refusal: Refusal) -> Line
+    ensures { λ r. ⌜ r ≡ refusedLine refusal ⌝ }
+{
+    Line {
+        refusal: wide(refusal.number()),
+        value: 0,
+        primitive: 0,
+    }
+}
+
+// The value and the primitive, or what refuses the one or the other. Both are refused alike but for a number that is not finite: where the value is
+// finite the primitive need not be, so each is asked for its own verdict.
 pub(crate) fn ask(xs: &[f64], curve: Curve, tags: &[u16], slots: &[f64], q: f64) -> Line
     ensures { λ r. ⌜ r ≡ lineOf (now (xs .entry)) curve (now (tags .entry)) (now (slots .entry)) q ⌝ }
 {
-    let asked = value(xs, curve, tags, slots, q);
-    let QueryAnswer::Number(v) = asked else {
-        return Line {
-            refusal: wide(asked.in_numbers().refusal),
-            value: 0,
-            primitive: 0,
-        };
-    };
-    let total = primitive(xs, curve, tags, slots, q);
-    let QueryAnswer::Number(p) = total else {
-        return Line {
-            refusal: wide(total.in_numbers().refusal),
-            value: 0,
-            primitive: 0,
-        };
-    };
-    Line {
-        refusal: 0,
-        value: numbers::to_bits(v),
-        primitive: numbers::to_bits(p),
+    let price = value(xs, curve, tags, slots, q);
+    match price.verdict() {
+        Verdict::Refused(refusal) => refused(refusal),
+        Verdict::Accepted => {
+            let total = primitive(xs, curve, tags, slots, q);
+            match total.verdict() {
+                Verdict::Refused(refusal) => refused(refusal),
+                Verdict::Accepted => Line {
+                    refusal: 0,
+                    value: numbers::to_bits(price.number()),
+                    primitive: numbers::to_bits(total.number()),
+                },
+            }
+        }
     }
 }

@@ -3,11 +3,13 @@ use crate::kept;
 use crate::kept::Kept;
 use crate::kept::Outcome;
 use crate::kept::TAGS;
+use crate::marks;
 use crate::points;
 use crate::records;
 use crate::words::MOST;
 use curve::curve::Curve;
 use numbers::SLOTS;
+use query::answer::AnswerInNumbers;
 use query::answer::QueryAnswer;
 use record::knots::LEFT_PRICE;
 use record::knots::RIGHT_PRICE;
@@ -103,14 +105,33 @@ pub(crate) fn column_agrees(kept: Kept, words: &[u64; MOST]) -> bool {
     same_numbers(&column, words, kept.knots)
 }
 
-// Whether an answer is as its refusal and its number tell; a refusal is told with zeros.
+// Whether an answer in numbers is as it is to be: the refusal, or 0 with the number that a line tells. No number stands beside a refusal.
+fn same_in_numbers(told: AnswerInNumbers, refusal: u64, number: u64) -> bool {
+    if kept::wide(told.refusal) != refusal {
+        return false;
+    }
+    if refusal != 0 {
+        return numbers::to_bits(told.answer) == 0;
+    }
+    numbers::to_bits(told.answer) == number
+}
+
+// Whether an answer is as its refusal and its number tell; a refusal is told with zeros. A number that is not finite is told as it is, and ours is then
+// marked, and refused in numbers.
 pub(crate) fn same(asked: QueryAnswer, refusal: u64, number: u64) -> bool {
+    if !same_in_numbers(
+        asked.in_numbers(),
+        marks::refusal_of(refusal, number),
+        number,
+    ) {
+        return false;
+    }
     match asked {
-        QueryAnswer::Number(y) => {
+        QueryAnswer::Number(ours) => {
             if refusal != 0 {
                 return false;
             }
-            numbers::to_bits(y) == number
+            marks::agrees(ours, number)
         }
         QueryAnswer::Refused(r) => {
             if kept::wide(r.number()) != refusal {

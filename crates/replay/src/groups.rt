@@ -7,6 +7,7 @@ use crate::growths;
 use crate::kept;
 use crate::kept::Kept;
 use crate::kept::Outcome;
+use crate::marks;
 use crate::records;
 use crate::records::Record;
 use crate::roots;
@@ -150,7 +151,9 @@ impl State {
         let seen = self.seen;
         let record = self.record;
         self.with(
-            seen.query(crate::queries::agrees(record, words[0], words[1], words[2])),
+            seen.query(crate::queries::agrees(record, words[0], words[1], words[2]))
+                .by_mark(marks::by_mark(words[1]))
+                .by_mark(marks::by_mark(words[2])),
             subject,
         )
     }
@@ -270,9 +273,11 @@ impl State {
             return self.strange_line();
         }
         let seen = self.seen;
+        let run = strips::run_of(kept, made);
         self.with(
             seen.column(kept.grown, count, curves::column_agrees(kept, words))
-                .run(kept.grown, made.sections, strips::run_agrees(kept, made)),
+                .run(kept.grown, made.sections, run.agrees)
+                .run_refused(run.refused),
             Subject::Whole(made),
         )
     }
@@ -289,10 +294,11 @@ impl State {
         let kept = self.kept;
         self.with(
             seen.strip(
-                kept.grown,
-                strips::at_knots(kept, words),
-                strips::agrees(kept, made, words),
-            ),
+                    kept.grown,
+                    strips::at_knots(kept, words),
+                    strips::agrees(kept, made, words),
+                )
+                .by_mark(marks::by_mark(words[4])),
             subject,
         )
     }
@@ -308,7 +314,9 @@ impl State {
         let seen = self.seen;
         let kept = self.kept;
         self.with(
-            seen.curve_query(kept.grown, curves::answers(kept, made, words)),
+            seen.curve_query(kept.grown, curves::answers(kept, made, words))
+                .by_mark(marks::by_mark(words[3]))
+                .by_mark(marks::by_mark(words[4])),
             subject,
         )
     }

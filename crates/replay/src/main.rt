@@ -6,6 +6,7 @@ mod file;
 mod groups;
 mod growths;
 mod kept;
+mod marks;
 mod points;
 mod queries;
 mod records;
@@ -101,6 +102,8 @@ fn print(seen: Seen) {
     print_grown(grown);
     let sheets = seen.sheets;
     print_sheets(sheets);
+    print_count(b"numbers that are not finite ", seen.not_finite);
+    print_count(b"runs refused for such a number ", seen.runs_refused);
     print_count(b"lines of no known kind ", seen.strange);
     print_count(b"mismatches ", seen.mismatches);
 }

@@ -1,14 +1,15 @@
 // A line `x X VALUE PRIMITIVE`: what a section answers at X.
+use crate::marks;
 use crate::records::Record;
 use record::reading::Found;
 use section::section::Section;
 
 fn same(section: Section, x: u64, value: u64, primitive: u64) -> bool {
     let at = numbers::of_bits(x);
-    if numbers::to_bits(section.value(at)) != value {
+    if !marks::agrees(section.value(at), value) {
         return false;
     }
-    numbers::to_bits(section.primitive(at)) == primitive
+    marks::agrees(section.primitive(at), primitive)
 }
 
 // Whether the answers that a line tells are those of a record's section.

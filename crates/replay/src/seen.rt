@@ -25,6 +25,8 @@ pub(crate) struct Sheets {
     pub refused: u64,
 }
 
+// `not_finite` are the values, primitives and strips of the original that are not finite, which are compared by the mark, and `runs_refused` the runs in
+// which one strip is not, which are refused whole.
 pub(crate) struct Seen {
     pub defaults: u64,
     pub roots: u64,
@@ -34,6 +36,8 @@ pub(crate) struct Seen {
     pub built: Curves,
     pub grown: Curves,
     pub sheets: Sheets,
+    pub not_finite: u64,
+    pub runs_refused: u64,
     pub strange: u64,
     pub mismatches: u64,
 }
@@ -167,6 +171,8 @@ impl Seen {
             built,
             grown,
             sheets,
+            not_finite: 0,
+            runs_refused: 0,
             strange: 0,
             mismatches: 0,
         }
@@ -274,6 +280,19 @@ impl Seen {
     pub(crate) fn run(self, grown: bool, strips: usize, agrees: bool) -> Self {
         self.with_curves(grown, self.curves(grown).run(strips))
             .judged(agrees)
+    }
+
+    // So many more numbers that were compared by the mark.
+    pub(crate) fn by_mark(mut self, count: u64) -> Self {
+        self.not_finite = more_by(self.not_finite, count);
+        self
+    }
+
+    pub(crate) fn run_refused(mut self, refused: bool) -> Self {
+        if refused {
+            self.runs_refused = more(self.runs_refused);
+        }
+        self
     }
 
     pub(crate) fn strange_line(mut self) -> Self {

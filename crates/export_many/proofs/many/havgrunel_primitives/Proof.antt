@@ -1,4 +1,4 @@
--- `havgrunel_primitives` meets its contract: the library's answers stand, and its verdict is returned by number.
+-- `havgrunel_primitives` meets its contract: the library's answers stand, and what it says is returned in numbers.
 use borrow.Author.Needs.{needs}
 use Rattle.section.specs.Section.{primitive}
 use Rattle.export_many.proofs.Told.{many-told}
@@ -8,7 +8,7 @@ use Rattle.export_many.proofs.many.havgrunel_primitives.Tie as tie
 returns : tie.Need-returns
 returns c =
     let a = c .before .before .before .before .before .before .before .before .before .before .before .args in
-    many-told primitive (a .knots .now) _ _ (a .tags .now) (a .slots .now) (a .xs .now) (a .answers .now) _ _ (c .before .before .before .before .before .curve-with .ensures) (c .before .before .before .primitives .ensures) (c .number .ensures)
+    many-told primitive (a .knots .now) _ _ (a .tags .now) (a .slots .now) (a .xs .now) (a .answers .now) _ _ _ (c .before .before .before .before .before .curve-with .ensures) (c .before .before .before .primitives .ensures) (c .in-numbers .ensures)
 
 pub havgrunel-primitives-spec : {M : Type 1} → statement M
 havgrunel-primitives-spec =

@@ -1,4 +1,4 @@
--- `havgrunel_values` meets its contract: the library's answers stand, and its verdict is returned by number.
+-- `havgrunel_values` meets its contract: the library's answers stand, and what it says is returned in numbers.
 use borrow.Author.Needs.{needs}
 use Rattle.section.specs.Section.{value}
 use Rattle.export_many.proofs.Told.{many-told}
@@ -8,7 +8,7 @@ use Rattle.export_many.proofs.many.havgrunel_values.Tie as tie
 returns : tie.Need-returns
 returns c =
     let a = c .before .before .before .before .before .before .before .before .before .before .before .args in
-    many-told value (a .knots .now) _ _ (a .tags .now) (a .slots .now) (a .xs .now) (a .answers .now) _ _ (c .before .before .before .before .before .curve-with .ensures) (c .before .before .before .values .ensures) (c .number .ensures)
+    many-told value (a .knots .now) _ _ (a .tags .now) (a .slots .now) (a .xs .now) (a .answers .now) _ _ _ (c .before .before .before .before .before .curve-with .ensures) (c .before .before .before .values .ensures) (c .in-numbers .ensures)
 
 pub havgrunel-values-spec : {M : Type 1} → statement M
 havgrunel-values-spec =

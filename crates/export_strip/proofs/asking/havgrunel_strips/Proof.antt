@@ -1,4 +1,5 @@
--- `havgrunel_strips` meets its contract: the library's answers stand, and its verdict is returned by number.
+-- `havgrunel_strips` meets its contract: the library's answers stand, and its verdict is returned in numbers.
+use mathlib.Core.Path.{refl}
 use borrow.Author.Needs.{needs}
 use Rattle.curve.specs.declared.curve.Curve.{Curve}
 use Rattle.query.specs.Strip.{pairsOutcome}
@@ -9,8 +10,8 @@ use Rattle.export_strip.proofs.asking.havgrunel_strips.Tie as tie
 returns : tie.Need-returns
 returns c =
     let a = c .before .before .before .before .before .before .before .before .before .before .before .before .args in
-    strips-told (λ (k : Curve). pairsOutcome (a .knots .now) k (a .tags .now) (a .slots .now) (a .starts .now) (a .ends .now) (a .answers .now)) _ _ _ _
-    (c .before .before .before .before .before .curve-with .ensures) (c .before .before .before .strips .ensures) (c .number .ensures)
+    strips-told (λ (k : Curve). pairsOutcome (a .knots .now) k (a .tags .now) (a .slots .now) (a .starts .now) (a .ends .now) (a .answers .now)) _ _ _ _ _ _
+    (c .before .before .before .before .before .curve-with .ensures) (c .before .before .before .strips .ensures) refl (c .in-numbers .ensures)
 
 pub havgrunel-strips-spec : {M : Type 1} → statement M
 havgrunel-strips-spec =

@@ -1,46 +1,39 @@
--- `asking::ask` meets its contract.
-use mathlib.Core.Path.{ap, _∙_}
+-- `asking::ask` meets its contract: what refuses the value, then what refuses the primitive, or both numbers.
 use borrow.Author.Needs.{needs}
-use lib.Ieee.{Float}
-use Rattle.section.specs.Section.{value, primitive}
-use Rattle.section.specs.declared.section.Section.{Section}
-use Rattle.query.specs.Query.{coveredAt}
-use Rattle.query.specs.declared.answer.AnswerInNumbers.{AnswerInNumbers}
-use Rattle.order.proofs.Queries.{none, not-second, both}
+use Rattle.order.proofs.Queries.{first-refused, second-refused, both}
 use Rattle.order.proofs.asking.ask.Statement.{statement}
 use Rattle.order.proofs.asking.ask.Tie as tie
 
 returns : tie.Need-returns
 returns c =
-    let a = c .before .before .before .before .before .before .before .before .args in
-    let f : Section → Float = λ s. value s (a .q) in
-    let g : Section → Float = λ s. primitive s (a .q) in
-    let k = coveredAt (a .xs .now) (a .curve) (a .tags .now) (a .slots .now) (a .q) in
-    none f g k _ _ _ (c .before .before .before .before .value .ensures) (c .before .before .enum-told .given .1) (c .wide .ensures ∙ ap (λ (t : AnswerInNumbers). t .refusal) (c .before .in-numbers .ensures))
+    let a = c .before .before .before .before in
+    let k = a .before .before .before .before .before .args in
+    first-refused (k .xs .now) (k .curve) (k .tags .now) (k .slots .now) (k .q) _ _ _ _ (a .before .value .ensures) (a .verdict .ensures) (c .before .before .refusal .given .1) (c .refused .ensures)
 
 returns-2 : tie.Need-returns-2
 returns-2 c =
-    let a = c .before .before .before .before .before .before .before .before .before .before .before .before .args in
-    let f : Section → Float = λ s. value s (a .q) in
-    let g : Section → Float = λ s. primitive s (a .q) in
-    let k = coveredAt (a .xs .now) (a .curve) (a .tags .now) (a .slots .now) (a .q) in
-    not-second f g k _ _ _ _ (c .before .before .before .before .before .before .before .before .value .ensures) (c .before .before .before .before .primitive .ensures) (c .before .before .before .before .before .before .asked .given .1) (c .before .before .enum-told2 .given .1)
+    let b = c .before .before .before .before in
+    let g = b .before .before in
+    let a = g .before .before in
+    let k = a .before .before .before .before .before .args in
+    second-refused (k .xs .now) (k .curve) (k .tags .now) (k .slots .now) (k .q) _ _ _ _ (a .before .value .ensures) (b .before .primitive .ensures) (a .verdict .ensures) (g .enum-told .given .1) (b .verdict2 .ensures) _ _ (c .before .before .refusal2 .given .1) (c .refused2 .ensures)
 
 returns-3 : tie.Need-returns-3
 returns-3 c =
-    let a = c .before .before .before .before .before .before .before .before .before .before .before .before .before .args in
-    let f : Section → Float = λ s. value s (a .q) in
-    let g : Section → Float = λ s. primitive s (a .q) in
-    let k = coveredAt (a .xs .now) (a .curve) (a .tags .now) (a .slots .now) (a .q) in
-    both f g k _ _ _ _ _ _ (c .before .before .before .before .before .before .before .before .before .value .ensures) (c .before .before .before .before .before .primitive .ensures) (c .before .before .before .before .before .before .before .asked .given .1) (c .before .before .before .total .given .1) (c .before .to-bits .ensures) (c .to-bits2 .ensures)
+    let j = c .before .before .before .before in
+    let b = j .before .before in
+    let g = b .before .before in
+    let a = g .before .before in
+    let k = a .before .before .before .before .before .args in
+    both (k .xs .now) (k .curve) (k .tags .now) (k .slots .now) (k .q) _ _ _ _ (a .before .value .ensures) (b .before .primitive .ensures) (a .verdict .ensures) (g .enum-told .given .1) (b .verdict2 .ensures) _ _ _ _ (j .enum-told2 .given .1) (c .before .before .before .number .ensures) (c .before .number2 .ensures) (c .before .before .to-bits .ensures) (c .to-bits2 .ensures)
 
 pub ask-spec : {M : Type 1} → statement M
 ask-spec =
     tie.close
     (tie.spec
-    (λ c κs. search needs) (λ c. search needs) (λ c. search needs) (λ c κs. search needs) (λ c κs. search needs)
+    (λ c κs. search needs) (λ c κs. search needs) (λ c. search needs) (λ c κs. search needs) (λ c. search needs)
+    (λ c κs. search needs) (λ c κs. search needs) (λ c. search needs) (λ c κs. search needs) (λ c. search needs)
+    (λ c κs. search needs) (λ c κs. search needs) (λ c κs. search needs) (λ c κs. search needs)
     returns
-    (λ c κs. search needs) (λ c. search needs) (λ c. search needs) (λ c κs. search needs) (λ c κs. search needs)
     returns-2
-    (λ c κs. search needs) (λ c κs. search needs)
     returns-3)

@@ -7,10 +7,10 @@ use Rattle.replay.proofs.strips.steps_agree.Statement.{statement}
 use Rattle.replay.proofs.strips.steps_agree.Tie as tie
 
 abbrev Inv-loop : tie.InvT-loop
-Inv-loop xs made tags slots column out last i₀ i = (last + 1 ≡ length xs) × (length xs ≤ length out)
+Inv-loop xs made tags slots column out told last refused first₀ i₀ first i = (last + 1 ≡ length xs) × (length xs ≤ length out)
 
 abbrev μ-loop : tie.MeasureT-loop
-μ-loop xs made tags slots column out last i₀ i = last - i
+μ-loop xs made tags slots column out told last refused first₀ i₀ first i = last - i
 
 returns : tie.Need-returns Inv-loop μ-loop
 returns c = search needs
@@ -51,23 +51,26 @@ shared-slice-read-strip-2 c = search needs
 strip-requires : tie.Need-strip-requires Inv-loop μ-loop
 strip-requires c κs = search needs
 
-same-requires : tie.Need-same-requires Inv-loop μ-loop
-same-requires c κs = search needs
-
-returns-3 : tie.Need-returns-3 Inv-loop μ-loop
-returns-3 c = search needs
-
 add-strip-between : tie.Need-add-strip-between Inv-loop μ-loop
 add-strip-between c = search needs
 
 strip-between-requires : tie.Need-strip-between-requires Inv-loop μ-loop
 strip-between-requires c κs = search needs
 
-same-requires-2 : tie.Need-same-requires-2 Inv-loop μ-loop
-same-requires-2 c κs = search needs
+step-agrees-requires : tie.Need-step-agrees-requires Inv-loop μ-loop
+step-agrees-requires c κs = search needs
 
-returns-4 : tie.Need-returns-4 Inv-loop μ-loop
-returns-4 c = search needs
+returns-3 : tie.Need-returns-3 Inv-loop μ-loop
+returns-3 c = search needs
+
+in-numbers-requires : tie.Need-in-numbers-requires Inv-loop μ-loop
+in-numbers-requires c κs = search needs
+
+wide-requires : tie.Need-wide-requires Inv-loop μ-loop
+wide-requires c κs = search needs
+
+or-requires : tie.Need-or-requires Inv-loop μ-loop
+or-requires c κs = search needs
 
 add-i : tie.Need-add-i Inv-loop μ-loop
 add-i c = search needs
@@ -78,8 +81,11 @@ loop-less c = search needs
 loop-again : tie.Need-loop-again Inv-loop μ-loop
 loop-again c = search needs
 
-returns-5 : tie.Need-returns-5 Inv-loop μ-loop
-returns-5 c = search needs
+is-told-requires : tie.Need-is-told-requires Inv-loop μ-loop
+is-told-requires c κs = search needs
+
+returns-4 : tie.Need-returns-4 Inv-loop μ-loop
+returns-4 c = search needs
 
 pub steps-agree-spec : {M : Type 1} → statement M
 steps-agree-spec =
@@ -100,13 +106,15 @@ steps-agree-spec =
     mul-strip-2
     shared-slice-read-strip-2
     strip-requires
-    same-requires
-    returns-3
     add-strip-between
     strip-between-requires
-    same-requires-2
-    returns-4
+    step-agrees-requires
+    returns-3
+    in-numbers-requires
+    wide-requires
+    or-requires
     add-i
     loop-less
     loop-again
-    returns-5)
+    is-told-requires
+    returns-4)
