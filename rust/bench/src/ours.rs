@@ -1,7 +1,7 @@
 //! The library over lent buffers, which are made once and never cleared.
 
 use havgrunel::lent::{self, Buffers, Curve, Previous};
-use havgrunel::{ConvexMonotone, MOST_POINTS, Refusal, SLOTS};
+use havgrunel::{ConvexMonotone, MOST_POINTS, ManyRefused, Refusal, SLOTS};
 use oracle::Settings;
 
 use crate::tables::Table;
@@ -112,12 +112,12 @@ impl<'a> Built<'a> {
         lent::primitive(self.knots, &self.curve, tags, slots, x)
     }
 
-    pub fn values(&self, queries: &[f64], answers: &mut [f64]) -> Result<(), Refusal> {
+    pub fn values(&self, queries: &[f64], answers: &mut [f64]) -> Result<(), ManyRefused> {
         let Room { tags, slots, .. } = &self.room;
         lent::values(self.knots, &self.curve, tags, slots, queries, answers)
     }
 
-    pub fn primitives(&self, queries: &[f64], answers: &mut [f64]) -> Result<(), Refusal> {
+    pub fn primitives(&self, queries: &[f64], answers: &mut [f64]) -> Result<(), ManyRefused> {
         let Room { tags, slots, .. } = &self.room;
         lent::primitives(self.knots, &self.curve, tags, slots, queries, answers)
     }
@@ -127,7 +127,7 @@ impl<'a> Built<'a> {
         lent::strip(self.knots, &self.curve, tags, slots, a, b)
     }
 
-    pub fn strip_run(&self, edges: &[f64], answers: &mut [f64]) -> Result<(), Refusal> {
+    pub fn strip_run(&self, edges: &[f64], answers: &mut [f64]) -> Result<(), ManyRefused> {
         let Room { tags, slots, .. } = &self.room;
         lent::strip_run(self.knots, &self.curve, tags, slots, edges, answers)
     }

@@ -6,18 +6,21 @@ use oracle::legal_tags;
 
 use crate::at_knots::Asked;
 use crate::expected::{AVERAGE_BELOW_ZERO, Seen, Splits};
+use crate::mark::NOT_FINITE;
 use crate::strip::STRIP_ENDS_NOT_RISING;
 use at_knots::AtKnots;
 use havgrunel::Split;
+use marks::Marks;
 use safe::Safe;
 use strips::Strips;
 
 mod at_knots;
+pub mod marks;
 pub mod safe;
 pub mod strips;
 
 /// Refusal numbers that curves, records and sheets can meet.
-const REFUSALS: [u8; 19] = [
+const REFUSALS: [u8; 20] = [
     1,
     2,
     3,
@@ -35,6 +38,7 @@ const REFUSALS: [u8; 19] = [
     15,
     16,
     STRIP_ENDS_NOT_RISING,
+    NOT_FINITE,
     CUTS_NOT_INNER,
     AVERAGE_BELOW_ZERO,
 ];
@@ -87,6 +91,7 @@ pub struct Counts {
     pub safe: Safe,
     at_knots: AtKnots,
     pub strips: Strips,
+    pub marks: Marks,
     refused: [u64; NUMBERS],
     /// Sections of curves, and sections by themselves, by the upper bits of their tags.
     built: [u64; 512],
@@ -162,6 +167,7 @@ impl Default for Counts {
             safe: Safe::default(),
             at_knots: AtKnots::default(),
             strips: Strips::default(),
+            marks: Marks::default(),
             refused: [0; NUMBERS],
             built: [0; 512],
             single: [0; 512],
@@ -249,6 +255,7 @@ impl Counts {
         self.safe.add(&other.safe);
         self.at_knots.add(&other.at_knots);
         self.strips.add(&other.strips);
+        self.marks.add(&other.marks);
         for (mine, others) in [
             (&mut self.refused[..], &other.refused[..]),
             (&mut self.ratios, &other.ratios),
@@ -318,7 +325,12 @@ impl Counts {
                 missing.push(format!("no careful parabola had a ratio {name}"));
             }
         }
-        let rows = [self.safe.rows(), self.at_knots.rows(), self.strips.rows()];
+        let rows = [
+            self.safe.rows(),
+            self.at_knots.rows(),
+            self.strips.rows(),
+            self.marks.rows(),
+        ];
         let none = rows.into_iter().flatten().filter(|(_, count)| *count == 0);
         missing.extend(none.map(|(name, _)| format!("none of this: {name}")));
         missing
@@ -366,7 +378,8 @@ impl Display for Counts {
         for (name, mask, bits) in KINDS {
             row(&format!("in curves: {name}"), self.kind(mask, bits))?;
         }
-        for (name, count) in self.at_knots.rows().into_iter().chain(self.strips.rows()) {
+        let rows = [self.at_knots.rows(), self.strips.rows(), self.marks.rows()];
+        for (name, count) in rows.into_iter().flatten() {
             row(&name, count)?;
         }
         for tag in legal_tags() {

@@ -11,6 +11,7 @@ pub mod draw;
 mod expected;
 pub mod judge;
 mod lent;
+pub mod mark;
 pub mod parabola;
 pub mod roots;
 pub mod safe;

@@ -1,4 +1,5 @@
-//! Holds the proved library against the original: seeded cases and roots, every number bit for bit, any NaN matching any NaN.
+//! Holds the proved library against the original: seeded cases and roots, every number bit for bit, any NaN matching any NaN. A value, a
+//! primitive or a strip that is not finite is compared by the mark: the library has to refuse it.
 //!
 //! The cases are the same for the same seed and count, and so is what is printed but for times, which go to standard error. The first that differs is made as small as can be and told in bits.
 

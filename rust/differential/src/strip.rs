@@ -1,5 +1,7 @@
 //! What a strip, an entry of a column and a strip between two places have to be.
 
+use crate::mark::told;
+
 /// The refusal that strips add.
 pub const STRIP_ENDS_NOT_RISING: u8 = 18;
 
@@ -9,6 +11,14 @@ pub struct Strip {
     pub b: f64,
     pub from: Result<f64, u8>,
     pub to: Result<f64, u8>,
+}
+
+impl Strip {
+    /// Its own number, where both ends are answered.
+    pub fn number(&self) -> Option<f64> {
+        let (from, to) = (self.from.ok()?, self.to.ok()?);
+        Some((to - from) / (self.b - self.a))
+    }
 }
 
 /// An entry of a column: what is told of the total up to one knot.
@@ -30,11 +40,21 @@ pub struct Between<'a> {
     pub j: usize,
 }
 
-/// What is due of each.
+impl Between<'_> {
+    /// Its own number, where both places are knots.
+    pub fn number(&self) -> Option<f64> {
+        let total = |place: usize| Some((*self.column.get(place)?, *self.knots.get(place)?));
+        let ((from, a), (to, b)) = (total(self.i)?, total(self.j)?);
+        Some((to - from) / (b - a))
+    }
+}
+
+/// What is due of each, and of an entry that is read from a column.
 #[derive(Clone, Copy)]
 pub struct Rule {
     pub strip: fn(&Strip) -> Result<f64, u8>,
     pub entry: fn(&Entry) -> f64,
+    pub read: fn(f64) -> Result<f64, u8>,
     pub between: fn(&Between<'_>) -> Result<f64, u8>,
 }
 
@@ -42,20 +62,22 @@ pub struct Rule {
 pub const RULE: Rule = Rule {
     strip: two_totals,
     entry: |entry| entry.total,
+    read: told,
     between: two_entries,
 };
 
-/// The difference of the totals over the length. A query that is refused refuses the strip, the first end's first.
+/// The difference of the totals over the length. A query that is refused refuses the strip, the first end's first; then the ends do, and at
+/// last the strip's own number, where it is not finite.
 pub fn two_totals(strip: &Strip) -> Result<f64, u8> {
     let (from, to) = (strip.from?, strip.to?);
     if strip.a < strip.b {
-        Ok((to - from) / (strip.b - strip.a))
+        told((to - from) / (strip.b - strip.a))
     } else {
         Err(STRIP_ENDS_NOT_RISING)
     }
 }
 
-/// The difference of two entries over that of their knots.
+/// The difference of two entries over that of their knots, where that is finite.
 pub fn two_entries(between: &Between<'_>) -> Result<f64, u8> {
     let &Between {
         knots,
@@ -64,7 +86,7 @@ pub fn two_entries(between: &Between<'_>) -> Result<f64, u8> {
         j,
     } = between;
     if i < j && j < knots.len() {
-        Ok((column[j] - column[i]) / (knots[j] - knots[i]))
+        told((column[j] - column[i]) / (knots[j] - knots[i]))
     } else {
         Err(STRIP_ENDS_NOT_RISING)
     }

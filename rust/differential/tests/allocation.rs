@@ -39,6 +39,7 @@ fn lent_calls_take_no_memory() {
     let (mut nodes, mut tags, mut slots) = ([0.0; 4], [0; 3], [0.0; 3 * SLOTS]);
     let (mut next_nodes, mut next_tags, mut next_slots) = (nodes, tags, slots);
     let (mut column, mut prices) = ([0.0; 4], [0.0; 2]);
+    let places = [0.5, 1.5];
     let before = TAKEN.get();
 
     let buffers = lend(&mut nodes, &mut tags, &mut slots);
@@ -79,12 +80,15 @@ fn lent_calls_take_no_memory() {
             &[0.0, 1.5, 4.0],
             &mut prices,
         )?;
+        lent::values(&x, &curve, &next_tags, &next_slots, &places, &mut prices)?;
+        lent::primitives(&x, &curve, &next_tags, &next_slots, &places, &mut prices)?;
+        let entry = lent::column_entry(&column, 3)?;
         let slots = lent::record(4, &next_slots, 1)?;
         let record = Record {
             tag: next_tags[1],
             slots,
         };
-        Ok(value + total + strip + between + record.value(1.5)? + sqrt(2.0))
+        Ok(value + total + strip + between + entry + record.value(1.5)? + sqrt(2.0))
     });
 
     assert_eq!(TAKEN.get(), before);

@@ -40,7 +40,7 @@ fn changes(method: ConvexMonotone, x: &[f64], y: &[f64]) -> Vec<f64> {
     let total = |place: usize, x: f64| {
         // A knot belongs to the section after it, so a section is asked by itself.
         let record = curve.record(place).expect("there");
-        record.primitive(x).expect("legal")
+        record.answers(x).expect("legal").primitive.number
     };
     let of = |place: usize| {
         let (from, to) = (x[place], x[place + 1]);
@@ -145,7 +145,7 @@ impl Kept {
         for (place, record) in curve.records().enumerate() {
             let (from, to, average) = (x[place], x[place + 1], y[place + 1]);
             places(&record, from, to, rng, &mut asked);
-            let up_to = |x: f64| record.primitive(x).expect("legal");
+            let up_to = |x: f64| record.answers(x).expect("legal").primitive.number;
             let after = total + average * (to - from);
             // Both ends of the period add to the running total; a combination adds two of either.
             let both = record.tag & 0xf000 != 0 && record.tag & 0x0f00 != 0;

@@ -135,8 +135,9 @@ fn the_weight_of_a_combination() {
         assert_eq!(stopped, cfg!(debug_assertions));
         let parts = (Quadratic::Plain(quadratic), Convex::Two(convex));
         let judged = oracle::section(&Recipe::Combination(weight, parts.0, parts.1));
-        let value = both.value(0.75).expect("legal");
-        assert!(oracle::words::same(value, judged.value(0.75)));
+        let value = both.answers(0.75).expect("legal").value;
+        assert!(oracle::words::same(value.number, judged.value(0.75)));
+        assert_eq!(value.finite, !weight.is_nan());
     }
 }
 
@@ -206,11 +207,26 @@ fn the_safe_split() {
 fn a_nan_is_a_nan() {
     let (x, y) = ([0.0, 1.0, 2.0], [0.0, 2.0_f64.powi(1023), 0.0]);
     let curve = method().interpolate(&x, &y).expect("builds");
-    let value = curve.record(0).expect("there").value(1.0);
-    assert!(value.expect("legal").is_nan());
+    let answers = curve.record(0).expect("there").answers(1.0);
+    assert!(answers.expect("legal").value.number.is_nan());
     if at_hand() {
         let curve = oracle::build(&PLAIN, &x, &y).expect("builds");
         assert!(curve.section_value(0, 1.0).is_nan());
+    }
+}
+
+/// The original tells an infinite number as any other. The library builds the same curve, and refuses that answer.
+#[test]
+fn an_answer_that_is_not_finite() {
+    let (x, y) = ([0.0, 1.0, 2.0], [0.0, 0.0, f64::MAX]);
+    let curve = method().interpolate(&x, &y).expect("builds");
+    assert_eq!(curve.value(0.5), Err(Refusal::NotFinite));
+    let answers = curve.record(0).expect("there").answers(0.5);
+    let value = answers.expect("legal").value;
+    assert_eq!((value.number, value.finite), (f64::INFINITY, false));
+    if at_hand() {
+        let curve = oracle::build(&PLAIN, &x, &y).expect("builds");
+        assert_eq!(curve.value(0.5), Ok(f64::INFINITY));
     }
 }
 

@@ -224,6 +224,52 @@ fn strips_and_columns_are_judged_and_a_run_without_any_fails() {
 }
 
 #[test]
+fn answers_that_are_not_finite_are_judged_and_a_run_without_any_fails() {
+    if !oracle::AT_HAND {
+        return;
+    }
+    let many = &*MANY;
+    for (name, least) in [
+        ("by the mark", 50_000),
+        ("by the mark: values", 5000),
+        ("by the mark: primitives", 5000),
+        ("by the mark: strips", 5000),
+        ("by the mark: strips between two places", 500),
+        ("by the mark: entries of columns read", 5000),
+        ("by the mark, too: values of sections", 5000),
+        ("by the mark, too: primitives of sections", 5000),
+        ("of these: infinite", 10_000),
+        ("of these: not a number", 10_000),
+        ("of these: strips of two finite totals", 30),
+        ("several queries, the first by the mark", 3000),
+        ("several strips, the first by the mark", 3000),
+        ("runs of several, the first by the mark", 3000),
+        ("several queries at once", 10_000),
+        ("several queries at once, refused", 10_000),
+        ("refusal 21", 50_000),
+    ] {
+        assert!(count(many, name) >= least, "{name}: {many}");
+    }
+    let parts = [
+        "by the mark: values",
+        "by the mark: primitives",
+        "by the mark: strips",
+        "by the mark: strips between two places",
+        "by the mark: entries of columns read",
+        "by the mark, too: values of sections",
+        "by the mark, too: primitives of sections",
+    ];
+    let all: u64 = parts.into_iter().map(|name| count(many, name)).sum();
+    assert_eq!(count(many, "by the mark"), all);
+
+    let output = run(&["--cases", "2"]);
+    let few = String::from_utf8(output.stdout).expect("text");
+    assert_eq!(output.status.code(), Some(1));
+    let line = "too few cases: none of this: of these: strips of two finite totals\n";
+    assert!(few.contains(line), "{few}");
+}
+
+#[test]
 fn without_the_original_it_says_so() {
     if !oracle::AT_HAND {
         assert_eq!(

@@ -5,6 +5,7 @@ mod drawn;
 
 use differential::case::{Case, Queries, Room, Strips, Table};
 use differential::judge::Judge;
+use differential::mark::told;
 use differential::strip::{Between, Entry, RULE, Rule, STRIP_ENDS_NOT_RISING, Strip, two_entries};
 use havgrunel::Split;
 use oracle::Settings;
@@ -34,14 +35,14 @@ const fn places(between: fn(&Between<'_>) -> Result<f64, u8>) -> Rule {
 /// A strip that is priced so, and refused as is due.
 fn priced(strip: &Strip, price: fn(&Strip, f64, f64) -> f64) -> Result<f64, u8> {
     (RULE.strip)(strip)?;
-    Ok(price(strip, strip.from?, strip.to?))
+    told(price(strip, strip.from?, strip.to?))
 }
 
 /// What is due, where the ends are allowed that this allows, and for others priced all the same.
 fn allowed(strip: &Strip, allow: fn(f64, f64) -> bool) -> Result<f64, u8> {
     let (from, to) = (strip.from?, strip.to?);
     if allow(strip.a, strip.b) {
-        Ok((to - from) / (strip.b - strip.a))
+        told((to - from) / (strip.b - strip.a))
     } else {
         Err(STRIP_ENDS_NOT_RISING)
     }
@@ -138,7 +139,7 @@ const OF_COLUMNS: [Wrong; 4] = [
 fn moved(between: &Between<'_>, i: usize, j: usize) -> Result<f64, u8> {
     two_entries(between)?;
     let &Between { knots, column, .. } = between;
-    Ok((column[j] - column[i]) / (knots[j] - knots[i]))
+    told((column[j] - column[i]) / (knots[j] - knots[i]))
 }
 
 const OF_PLACES: [Wrong; 5] = [
@@ -160,7 +161,7 @@ const OF_PLACES: [Wrong; 5] = [
     (
         "equal places accepted",
         places(|between| match between.i {
-            i if i == between.j && i < between.knots.len() => Ok(f64::NAN),
+            i if i == between.j && i < between.knots.len() => told(f64::NAN),
             _ => two_entries(between),
         }),
     ),

@@ -1,7 +1,7 @@
 //! A curve that owns its knots and its sections' records.
 
 use crate::lent::{self, Buffers, Curve, Previous};
-use crate::{ConvexMonotone, MOST_POINTS, Record, Refusal, SLOTS, Tail};
+use crate::{ConvexMonotone, MOST_POINTS, ManyRefused, Record, Refusal, SLOTS, Tail};
 
 /// A curve of the method over rising knots.
 #[derive(Clone, Debug)]
@@ -172,18 +172,33 @@ impl ConvexMonotoneInterpolation {
         self.curve.extrapolates
     }
 
-    /// The price at `x`.
+    /// The price at `x`. Refused by 12 where `x` is not a number, by 13 where it is outside the knots and such places are not allowed, and
+    /// by 21 where the price is infinite or not a number.
     pub fn value(&self, x: f64) -> Result<f64, Refusal> {
         lent::value(&self.knots, &self.curve, &self.tags, &self.slots, x)
     }
 
-    /// The total of all prices up to `x`.
+    /// The total of all prices up to `x`, refused in the same way.
     pub fn primitive(&self, x: f64) -> Result<f64, Refusal> {
         lent::primitive(&self.knots, &self.curve, &self.tags, &self.slots, x)
     }
 
-    /// The price at each of `xs`, into the first entries of `answers`; all or nothing ([`lent::values`]).
-    pub fn values(&self, xs: &[f64], answers: &mut [f64]) -> Result<(), Refusal> {
+    /// The price at each of `xs`, into the first entries of `answers`; all or nothing ([`lent::values`]), and where it is nothing, which of
+    /// them was refused first.
+    ///
+    /// ```
+    /// use havgrunel::{ConvexMonotone, Refusal};
+    ///
+    /// // The second month traded at 0, and has no price at its first knot.
+    /// let curve = ConvexMonotone::gas().interpolate(&[0.0, 1.0, 2.0, 3.0], &[0.0, 2.0, 0.0, 2.0])?;
+    /// let mut prices = [-1.0; 3];
+    /// let refused = curve.values(&[0.5, 1.0, 1.5], &mut prices).unwrap_err();
+    /// assert_eq!((refused.refusal, refused.query), (Refusal::NotFinite, Some(1)));
+    /// assert_eq!(prices, [-1.0; 3]);
+    /// curve.values(&[0.5, 1.5], &mut prices)?;
+    /// # Ok::<(), Refusal>(())
+    /// ```
+    pub fn values(&self, xs: &[f64], answers: &mut [f64]) -> Result<(), ManyRefused> {
         lent::values(
             &self.knots,
             &self.curve,
@@ -195,7 +210,7 @@ impl ConvexMonotoneInterpolation {
     }
 
     /// The total of all prices up to each of `xs`, in the same way.
-    pub fn primitives(&self, xs: &[f64], answers: &mut [f64]) -> Result<(), Refusal> {
+    pub fn primitives(&self, xs: &[f64], answers: &mut [f64]) -> Result<(), ManyRefused> {
         lent::primitives(
             &self.knots,
             &self.curve,
@@ -206,8 +221,9 @@ impl ConvexMonotoneInterpolation {
         )
     }
 
-    /// The average price from `a` to `b`: the total up to `b` less the total up to `a`, divided by `b - a`, each step rounded once. Refused as
-    /// [`primitive`](Self::primitive) is at `a`, then as it is at `b`, then by 18 unless `a` is below `b`.
+    /// The average price from `a` to `b`: the total up to `b` less the total up to `a`, divided by `b - a`, each step rounded once. Refused
+    /// as [`primitive`](Self::primitive) is at `a`, then as it is at `b`, both short of 21; then by 18 unless `a` is below `b`; then by 21
+    /// where the average itself is infinite or not a number.
     ///
     /// ```
     /// use havgrunel::ConvexMonotone;
@@ -229,7 +245,12 @@ impl ConvexMonotoneInterpolation {
 
     /// The average price from each of `starts` to the number beside it in `ends`, into the first entries of `answers`; all or nothing
     /// ([`lent::strips`]).
-    pub fn strips(&self, starts: &[f64], ends: &[f64], answers: &mut [f64]) -> Result<(), Refusal> {
+    pub fn strips(
+        &self,
+        starts: &[f64],
+        ends: &[f64],
+        answers: &mut [f64],
+    ) -> Result<(), ManyRefused> {
         lent::strips(
             &self.knots,
             &self.curve,
@@ -242,7 +263,7 @@ impl ConvexMonotoneInterpolation {
     }
 
     /// The average price from each of `edges` to the next, in the same way: one number fewer than edges.
-    pub fn strip_run(&self, edges: &[f64], answers: &mut [f64]) -> Result<(), Refusal> {
+    pub fn strip_run(&self, edges: &[f64], answers: &mut [f64]) -> Result<(), ManyRefused> {
         lent::strip_run(
             &self.knots,
             &self.curve,
@@ -255,9 +276,15 @@ impl ConvexMonotoneInterpolation {
 
     /// The average price from knot `i` to knot `j`, both counted from 0, by two entries of the column: what [`strip`](Self::strip) tells from
     /// the one knot to the other. Refused by 11 where the curve has no column, then by 18 unless `i` is below `j` and `j` is a knot's
-    /// number.
+    /// number, then by 21 where the average itself is infinite or not a number.
     pub fn strip_between(&self, i: usize, j: usize) -> Result<f64, Refusal> {
         lent::strip_between(&self.knots, self.column().unwrap_or(&[]), i, j)
+    }
+
+    /// The total up to knot `i`, counted from 0, by the column: what [`primitive`](Self::primitive) tells there. Refused by 11 where the
+    /// curve has no column or no such knot, then by 21 where the total is infinite or not a number.
+    pub fn total_at(&self, i: usize) -> Result<f64, Refusal> {
+        lent::column_entry(self.column().unwrap_or(&[]), i)
     }
 
     /// The method has no derivative, and this is always refused.
@@ -290,8 +317,9 @@ impl ConvexMonotoneInterpolation {
         &self.nodes
     }
 
-    /// The total up to each knot, if the curve was built or grown with a column
-    /// ([`ConvexMonotone::interpolate_with_column`], [`ConvexMonotone::local_interpolate_with_column`]).
+    /// The total up to each knot, if the curve was built or grown with a column ([`ConvexMonotone::interpolate_with_column`],
+    /// [`ConvexMonotone::local_interpolate_with_column`]). The numbers are whatever the formulas give; [`total_at`](Self::total_at) refuses
+    /// one that is infinite or not a number.
     pub fn column(&self) -> Option<&[f64]> {
         self.column.as_deref()
     }

@@ -14,6 +14,7 @@ compile_error!("the library is made for 64-bit machines");
 
 mod archive;
 
+pub use archive::Many;
 pub use archive::havgrunel_default_monotonicity as default_monotonicity;
 pub use archive::havgrunel_default_positivity as default_positivity;
 pub use archive::havgrunel_default_quadraticity as default_quadraticity;
@@ -261,7 +262,7 @@ macro_rules! many_queries {
             curve: &Curve,
             $($at: &[f64],)*
             answers: &mut [f64],
-        ) -> u8 {
+        ) -> Many {
             // SAFETY: each pointer and count is one slice's, borrowed until the call is over; the answers' is borrowed by no one else.
             unsafe {
                 archive::$exported(
@@ -307,6 +308,19 @@ pub fn strip_between(knots: &[f64], column: &[f64], i: usize, j: usize, answer: 
     }
 }
 
+pub fn column_entry(column: &[f64], i: usize, answer: &mut [f64]) -> u8 {
+    // SAFETY: each pointer and count is one slice's, borrowed until the call is over; the answer's is borrowed by no one else.
+    unsafe {
+        archive::havgrunel_column_entry(
+            column.as_ptr(),
+            column.len(),
+            i,
+            answer.as_mut_ptr(),
+            answer.len(),
+        )
+    }
+}
+
 pub fn record(points: usize, slots: &[f64], number: usize, into: &mut [f64]) -> u8 {
     // SAFETY: each pointer and count is one slice's, borrowed until the call is over; `into` is borrowed by no one else.
     unsafe {
@@ -321,8 +335,9 @@ pub fn record(points: usize, slots: &[f64], number: usize, into: &mut [f64]) -> 
     }
 }
 
-pub fn section(tag: u16, slots: &[f64], x: f64, answer: &mut [f64]) -> u8 {
-    // SAFETY: each pointer and count is one slice's, borrowed until the call is over; the answer's is borrowed by no one else.
+pub fn section(tag: u16, slots: &[f64], x: f64, answer: &mut [f64], finite: &mut [bool]) -> u8 {
+    // SAFETY: each pointer and count is one slice's, borrowed until the call is over; the answer's and the marks' are borrowed by no one
+    // else.
     unsafe {
         archive::havgrunel_section(
             tag,
@@ -331,6 +346,8 @@ pub fn section(tag: u16, slots: &[f64], x: f64, answer: &mut [f64]) -> u8 {
             x,
             answer.as_mut_ptr(),
             answer.len(),
+            finite.as_mut_ptr(),
+            finite.len(),
         )
     }
 }

@@ -3,7 +3,7 @@
 //! A curve of n points takes n nodes, n - 1 tags and [`SLOTS`] slots for each tag; longer buffers are as good, and what lies
 //! beyond is not touched. A refused call has written nothing.
 
-use crate::{ConvexMonotone, Refusal, SLOTS, ffi};
+use crate::{ConvexMonotone, ManyRefused, Refusal, SLOTS, ffi};
 
 /// Where a curve is written.
 #[derive(Debug)]
@@ -266,7 +266,7 @@ pub fn build_in_sheets(
     Ok(told.curve(false))
 }
 
-/// The price at `x`. Refused in the order 4, 5, 7, 10, 11, 12, 13, 15.
+/// The price at `x`. Refused in the order 4, 5, 7, 10, 11, 12, 13, 15, 21, the last where the price is infinite or not a number.
 pub fn value(
     knots: &[f64],
     curve: &Curve,
@@ -294,7 +294,7 @@ pub fn primitive(
 
 /// The price at each of `xs`, into the first entries of `answers`, each as [`value`] tells it. The knots are checked once for all, and
 /// `xs` that rise cost a step each. Refused in the order 4, 5, 7, 10, 11, which also tells that `answers` is shorter than `xs`; then by
-/// 12, 13, 15 of the first `x` that is refused, and then nothing is written.
+/// 12, 13, 15, 21 of the first `x` that is refused, with its place in `xs`, and then nothing is written.
 pub fn values(
     knots: &[f64],
     curve: &Curve,
@@ -302,8 +302,9 @@ pub fn values(
     slots: &[f64],
     xs: &[f64],
     answers: &mut [f64],
-) -> Result<(), Refusal> {
-    Refusal::told(ffi::values(knots, tags, slots, curve, xs, answers))
+) -> Result<(), ManyRefused> {
+    let told = ffi::values(knots, tags, slots, curve, xs, answers);
+    ManyRefused::told(told, xs.len())
 }
 
 /// The total of all prices up to each of `xs`, refused as [`values`] is.
@@ -314,13 +315,14 @@ pub fn primitives(
     slots: &[f64],
     xs: &[f64],
     answers: &mut [f64],
-) -> Result<(), Refusal> {
-    Refusal::told(ffi::primitives(knots, tags, slots, curve, xs, answers))
+) -> Result<(), ManyRefused> {
+    let told = ffi::primitives(knots, tags, slots, curve, xs, answers);
+    ManyRefused::told(told, xs.len())
 }
 
 /// The average price from `a` to `b`: the total up to `b` less the total up to `a`, divided by `b - a`, each step rounded once. The knots are
 /// checked once for both ends. Refused in the order 4, 5, 7, 10, 11, 12, 13, 15 for `a`; then 12, 13, 15 for `b`; then 18 unless `a` is
-/// below `b`.
+/// below `b`; then 21 where the average itself is infinite or not a number, whatever the two totals are.
 pub fn strip(
     knots: &[f64],
     curve: &Curve,
@@ -336,7 +338,7 @@ pub fn strip(
 
 /// The average price from each of `starts` to the number beside it in `ends`, into the first entries of `answers`, each as [`strip`] tells
 /// it. Refused by 1 where there are not as many `ends` as `starts`; then in the order 4, 5, 7, 10, 11, which also tells that `answers` is
-/// shorter than these; then as the first strip is that is refused, and then nothing is written.
+/// shorter than these; then as the first strip is that is refused, with its place, and then nothing is written.
 pub fn strips(
     knots: &[f64],
     curve: &Curve,
@@ -345,10 +347,9 @@ pub fn strips(
     starts: &[f64],
     ends: &[f64],
     answers: &mut [f64],
-) -> Result<(), Refusal> {
-    Refusal::told(ffi::strips(
-        knots, tags, slots, curve, starts, ends, answers,
-    ))
+) -> Result<(), ManyRefused> {
+    let told = ffi::strips(knots, tags, slots, curve, starts, ends, answers);
+    ManyRefused::told(told, starts.len())
 }
 
 /// The average price from each of `edges` to the next, in the same way: one number fewer than edges, and none where there is no edge. Each
@@ -360,17 +361,26 @@ pub fn strip_run(
     slots: &[f64],
     edges: &[f64],
     answers: &mut [f64],
-) -> Result<(), Refusal> {
-    Refusal::told(ffi::strip_run(knots, tags, slots, curve, edges, answers))
+) -> Result<(), ManyRefused> {
+    let told = ffi::strip_run(knots, tags, slots, curve, edges, answers);
+    ManyRefused::told(told, edges.len().saturating_sub(1))
 }
 
 /// The average price from knot `i` to knot `j`, both counted from 0: the difference of the two entries of the curve's column over that of
 /// the two knots, each step rounded once. With the column that was written with the curve it is what [`strip`] tells from the one knot to
 /// the other. Refused in the order 4, 5, 7, 10, 11 for a `column` that is shorter than the knots, 18 unless `i` is below `j` and `j` is a
-/// knot's number.
+/// knot's number, 21 where the average itself is infinite or not a number.
 pub fn strip_between(knots: &[f64], column: &[f64], i: usize, j: usize) -> Result<f64, Refusal> {
     let mut answer = [0.0];
     Refusal::told(ffi::strip_between(knots, column, i, j, &mut answer))?;
+    Ok(answer[0])
+}
+
+/// The total up to knot `i`, counted from 0: entry `i` of the curve's column, which itself keeps its numbers by their bits, whatever they
+/// are. Refused by 11 where the column has no such entry, then by 21 where the entry is infinite or not a number.
+pub fn column_entry(column: &[f64], i: usize) -> Result<f64, Refusal> {
+    let mut answer = [0.0];
+    Refusal::told(ffi::column_entry(column, i, &mut answer))?;
     Ok(answer[0])
 }
 

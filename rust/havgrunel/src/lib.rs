@@ -18,6 +18,9 @@
 //! A long table may be built in sheets, and gives the very same curve: see [`ConvexMonotone::interpolate_in_sheets`] and
 //! [`ConvexMonotone::sheet`].
 //!
+//! A build takes numbers of any size, and a curve stores what its formulas give, infinite or not a number included. No answer is so: a
+//! price, a total or an average that is not finite is refused ([`Refusal::NotFinite`]), after all else that it could be refused for.
+//!
 //! The average price from one day to another is [`ConvexMonotoneInterpolation::strip`]. A curve that is built by
 //! [`ConvexMonotone::interpolate_with_column`] keeps the total up to each knot, for strips between knots.
 //!
@@ -46,8 +49,8 @@ pub use curve::ConvexMonotoneInterpolation;
 pub use lent::Tail;
 pub use method::{ConvexMonotone, Split};
 pub use record::Record;
-pub use refusal::Refusal;
-pub use section::{Answers, Section};
+pub use refusal::{ManyRefused, Refusal};
+pub use section::{Answers, Marked, Section};
 pub use traits::{Interpolation, Interpolator, LocalInterpolator};
 
 /// The numbers of a curve.

@@ -55,22 +55,23 @@ impl Record {
         self.slots[TOTAL]
     }
 
-    /// All that the section answers at `x`, wherever that is; refused by 15 where the tag is none that there is.
+    /// All that the section answers at `x`, wherever that is, its price and its total each with its mark; refused by 15 where the tag is
+    /// none that there is.
     pub fn answers(&self, x: f64) -> Result<Answers, Refusal> {
         self.section().answers(x)
     }
 
-    /// The price at `x`.
+    /// The price at `x`. Refused in the order 15, 21, the last where the price is infinite or not a number.
     pub fn value(&self, x: f64) -> Result<f64, Refusal> {
         self.section().value(x)
     }
 
-    /// The total up to `x`.
+    /// The total up to `x`, refused in the same way for its own number.
     pub fn primitive(&self, x: f64) -> Result<f64, Refusal> {
         self.section().primitive(x)
     }
 
-    /// The price that the section ends on.
+    /// The price that the section ends on, as it is stored; refused by 15 alone.
     pub fn f_next(&self) -> Result<f64, Refusal> {
         self.section().f_next()
     }

@@ -3,6 +3,8 @@
 use std::error::Error;
 use std::fmt;
 
+use crate::ffi;
+
 macro_rules! refusals {
     ($($name:ident = $number:literal, $text:literal;)*) => {
         /// Why a call was refused: the first reason in the order of the call. A refused call has written nothing.
@@ -51,6 +53,7 @@ refusals! {
     RecordNotLegal = 15, "a record's tag is not legal, or the record is not there";
     NoGivenNode = 16, "a sheet needs a given node at one end at least, and this one has none";
     StripEndsNotRising = 18, "the strip's first end is not below its second, or a place is past the last knot";
+    NotFinite = 21, "the answer is infinite or not a number";
     CutsNotInner = 28, "a cut is not an inner knot of the table, or not above the cut before it";
     AverageBelowZero = 29, "an average is below 0, and no curve at or above 0 can keep it, as the safe split promises";
     SplitUnknown = 30, "the split's number is none of 0, 1 and 2";
@@ -70,3 +73,40 @@ impl fmt::Display for Refusal {
 }
 
 impl Error for Refusal {}
+
+/// Why a call for many queries or strips was refused, and which of them was to blame. Such a call answers all of them or none.
+#[derive(Clone, Copy, Debug, PartialEq, Eq, Hash)]
+pub struct ManyRefused {
+    /// Why.
+    pub refusal: Refusal,
+    /// The first query or strip that is refused, counted from 0; `None` where the curve is refused or a buffer, and so no single one is to
+    /// blame.
+    pub query: Option<usize>,
+}
+
+impl ManyRefused {
+    /// What such a call told of so many queries: 0 is no refusal, and a query past the last is none.
+    pub(crate) fn told(told: ffi::Many, count: usize) -> Result<(), ManyRefused> {
+        Refusal::told(told.refusal).map_err(|refusal| ManyRefused {
+            refusal,
+            query: (told.query < count).then_some(told.query),
+        })
+    }
+}
+
+impl fmt::Display for ManyRefused {
+    fn fmt(&self, f: &mut fmt::Formatter<'_>) -> fmt::Result {
+        match self.query {
+            Some(query) => write!(f, "number {query}, counted from 0: {}", self.refusal),
+            None => self.refusal.fmt(f),
+        }
+    }
+}
+
+impl Error for ManyRefused {}
+
+impl From<ManyRefused> for Refusal {
+    fn from(many: ManyRefused) -> Refusal {
+        many.refusal
+    }
+}

@@ -14,14 +14,34 @@ pub struct Section {
     pub fields: [f64; FIELDS],
 }
 
+/// What a section's formula gives at a place, with the mark that goes with it.
+#[derive(Clone, Copy, Debug, PartialEq)]
+pub struct Marked {
+    /// The number by its bits, which may be infinite or a NaN.
+    pub number: f64,
+    /// Whether it is finite.
+    pub finite: bool,
+}
+
+impl Marked {
+    /// The number where it is finite; else it is refused by 21.
+    pub fn told(self) -> Result<f64, Refusal> {
+        if self.finite {
+            Ok(self.number)
+        } else {
+            Err(Refusal::NotFinite)
+        }
+    }
+}
+
 /// What a section answers at a place.
 #[derive(Clone, Copy, Debug, PartialEq)]
 pub struct Answers {
     /// The price there.
-    pub value: f64,
+    pub value: Marked,
     /// The total up to there.
-    pub primitive: f64,
-    /// The price that the section ends on, wherever it is asked.
+    pub primitive: Marked,
+    /// The price that the section ends on, wherever it is asked: the number that it stores, whatever that is.
     pub f_next: f64,
 }
 
@@ -90,29 +110,37 @@ impl Section {
         Ok(both)
     }
 
-    /// All that the section answers at `x`, wherever that is; refused by 15 where the tag is none that there is.
+    /// All that the section answers at `x`, wherever that is, its price and its total each with its mark; refused by 15 where the tag is
+    /// none that there is.
     pub fn answers(&self, x: f64) -> Result<Answers, Refusal> {
-        let mut told = [0.0; 3];
-        Refusal::told(ffi::section(self.tag, &self.fields, x, &mut told))?;
+        let (mut told, mut finite) = ([0.0; 3], [false; 2]);
+        Refusal::told(ffi::section(
+            self.tag,
+            &self.fields,
+            x,
+            &mut told,
+            &mut finite,
+        ))?;
         let [value, primitive, f_next] = told;
+        let marked = |number, finite| Marked { number, finite };
         Ok(Answers {
-            value,
-            primitive,
+            value: marked(value, finite[0]),
+            primitive: marked(primitive, finite[1]),
             f_next,
         })
     }
 
-    /// The price at `x`.
+    /// The price at `x`. Refused in the order 15, 21, the last where the price is infinite or not a number.
     pub fn value(&self, x: f64) -> Result<f64, Refusal> {
-        Ok(self.answers(x)?.value)
+        self.answers(x)?.value.told()
     }
 
-    /// The total up to `x`.
+    /// The total up to `x`, refused in the same way for its own number.
     pub fn primitive(&self, x: f64) -> Result<f64, Refusal> {
-        Ok(self.answers(x)?.primitive)
+        self.answers(x)?.primitive.told()
     }
 
-    /// The price that the section ends on.
+    /// The price that the section ends on, as it is stored; refused by 15 alone.
     pub fn f_next(&self) -> Result<f64, Refusal> {
         Ok(self.answers(0.0)?.f_next)
     }

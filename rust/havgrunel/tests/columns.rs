@@ -6,8 +6,8 @@ mod asked;
 mod columned;
 mod drawn;
 
-use asked::bits;
-use columned::{Written, built, method, told_bits};
+use asked::{OLD, all, bits, covering, finite};
+use columned::{Built, Written, built, method, told_bits};
 use havgrunel::lent;
 use havgrunel::{ConvexMonotone, ConvexMonotoneInterpolation, Refusal, SLOTS};
 use oracle::answers::rng::Rng;
@@ -22,9 +22,14 @@ fn between_two_places_the_column_tells_the_strip() {
         let totals: Vec<f64> = built
             .knots
             .iter()
-            .map(|&knot| built.primitive(knot).expect("answers at a knot"))
+            .map(|&knot| built.total(knot).expect("answers at a knot"))
             .collect();
         assert_eq!(bits(built.column()), bits(&totals));
+        for (place, (&knot, &total)) in built.knots.iter().zip(&totals).enumerate() {
+            let due = told_bits(finite(total));
+            assert_eq!(told_bits(built.primitive(knot)), due);
+            assert_eq!(told_bits(lent::column_entry(built.column(), place)), due);
+        }
         not_finite += totals.iter().filter(|total| !total.is_finite()).count();
         for _ in 0..20 {
             let points = built.knots.len() as u64;
@@ -88,10 +93,22 @@ fn long_columns_with_unusual_splits() {
         let curve =
             lent::build_with_column(&knots, &averages, method, false, None, buffers, column);
         let curve = curve.expect("builds");
-        let mut totals = vec![0.0; knots.len()];
-        let Written { tags, slots, .. } = &written;
-        lent::primitives(&knots, &curve, tags, slots, &knots, &mut totals).expect("inside");
-        assert_eq!(bits(&written.column[..knots.len()]), bits(&totals));
+        let built = Built {
+            knots,
+            curve,
+            written,
+        };
+        let total = |&knot: &f64| built.total(knot).expect("inside");
+        let totals: Vec<f64> = built.knots.iter().map(total).collect();
+        assert_eq!(bits(built.column()), bits(&totals));
+        let mut told = vec![OLD; totals.len()];
+        let due = all(totals.iter().copied().map(finite));
+        assert_eq!(
+            built.primitives(&built.knots, &mut told),
+            due.as_ref().map(|_| ()).map_err(|&refused| refused)
+        );
+        assert_eq!(bits(&told), bits(&due.unwrap_or(vec![OLD; totals.len()])));
+        let (knots, Written { tags, slots, .. }) = (&built.knots, &built.written);
         let mut before = 0.0;
         for (i, record) in slots.chunks(SLOTS).enumerate() {
             if is_unusual(tags[i], record, knots[i]) {
@@ -121,9 +138,16 @@ fn same_curve(a: &ConvexMonotoneInterpolation, b: &ConvexMonotoneInterpolation) 
 fn owns_its_column(curve: &ConvexMonotoneInterpolation) {
     let column = curve.column().expect("has one");
     let knots = curve.knots();
-    let mut totals = vec![0.0; knots.len()];
-    curve.primitives(knots, &mut totals).expect("inside");
-    assert_eq!(bits(column), bits(&totals));
+    for (place, &knot) in knots.iter().enumerate() {
+        let section = |place: usize| curve.record(place).expect("there").section();
+        let there = covering(knots, curve.tail(), section, knot).expect("legal");
+        let total = there.primitive.number;
+        assert_eq!(bits(&column[place..=place]), bits(&[total]));
+        let due = told_bits(finite(total));
+        assert_eq!(told_bits(curve.primitive(knot)), due);
+        assert_eq!(told_bits(curve.total_at(place)), due);
+    }
+    assert_eq!(curve.total_at(knots.len()), Err(Refusal::BufferTooShort));
     for j in 0..knots.len() {
         for i in 0..j {
             let by_knots = curve.strip(knots[i], knots[j]);
@@ -145,6 +169,7 @@ fn curves_keep_their_columns() {
         owns_its_column(&whole);
         assert_eq!(without.column(), None);
         assert_eq!(without.strip_between(0, 1), Err(Refusal::BufferTooShort));
+        assert_eq!(without.total_at(0), Err(Refusal::BufferTooShort));
         let cut = method.interpolate_in_sheets(&x, &y, &[1]).expect("builds");
         assert_eq!(cut.column(), None);
         let far = whole.with_extrapolation(true);

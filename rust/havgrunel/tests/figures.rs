@@ -65,7 +65,9 @@ fn p5_to_p8_single_sections() {
     let second = Section::convex_monotone2(0.0, 1.0, -1.0, 5.0, 2.0, 0.5, 0.0);
     assert_eq!(second.value(0.75), Ok(2.5));
     let fourth = Section::convex_monotone4(0.0, 1.0, 1.0, 0.0, 1.0, 0.0, 0.0);
-    assert!(fourth.value(0.0).expect("legal").is_nan());
+    let value = fourth.answers(0.0).expect("legal").value;
+    assert!(value.number.is_nan() && !value.finite);
+    assert_eq!(fourth.value(0.0), Err(Refusal::NotFinite));
 }
 
 #[test]

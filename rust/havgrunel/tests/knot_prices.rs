@@ -23,7 +23,7 @@ fn tells_its_knots(records: impl Iterator<Item = Record>, knots: &[f64], average
     for (place, record) in records.enumerate() {
         let (left, right) = (knots[place], knots[place + 1]);
         total += averages[place + 1] * (right - left);
-        let price = |x: f64| record.value(x).expect("legal");
+        let price = |x: f64| record.answers(x).expect("legal").value.number;
         let due = [price(left), price(right), total];
         assert_eq!(told(&record).map(bits), due.map(bits), "section {place}");
         count += 1;
@@ -151,8 +151,8 @@ fn the_section_of_a_record() {
         for x in [0.0, 0.5, 1.0, 1.5, 2.0] {
             assert_eq!(record.answers(x), section.answers(x));
             let answers = section.answers(x).expect("legal");
-            assert_eq!(record.value(x), Ok(answers.value));
-            assert_eq!(record.primitive(x), Ok(answers.primitive));
+            assert_eq!(record.value(x), answers.value.told());
+            assert_eq!(record.primitive(x), answers.primitive.told());
             assert_eq!(record.f_next(), Ok(answers.f_next));
         }
     }

@@ -1,11 +1,12 @@
 //! Many queries at once against each by itself: the same numbers, and the refusal of the first that is refused, with nothing written.
 
+#[allow(dead_code)]
 mod asked;
 mod drawn;
 
-use asked::{OLD, bits, place};
+use asked::{OLD, all, bits, place};
 use havgrunel::lent::{self, Buffers, Curve};
-use havgrunel::{ConvexMonotone, Refusal, SLOTS};
+use havgrunel::{ConvexMonotone, ManyRefused, Refusal, SLOTS};
 use oracle::answers::rng::Rng;
 
 struct Built {
@@ -42,7 +43,7 @@ fn built(rng: &mut Rng) -> Option<Built> {
 }
 
 type Single = fn(&[f64], &Curve, &[u16], &[f64], f64) -> Result<f64, Refusal>;
-type Many = fn(&[f64], &Curve, &[u16], &[f64], &[f64], &mut [f64]) -> Result<(), Refusal>;
+type Many = fn(&[f64], &Curve, &[u16], &[f64], &[f64], &mut [f64]) -> Result<(), ManyRefused>;
 
 /// The answers of a call for many are those of the calls for each; how many there were, and whether one was refused.
 fn agree(built: &Built, places: &[f64], single: Single, many: Many) -> (usize, bool) {
@@ -52,13 +53,10 @@ fn agree(built: &Built, places: &[f64], single: Single, many: Many) -> (usize, b
         tags,
         slots,
     } = built;
-    let each: Result<Vec<f64>, Refusal> = places
-        .iter()
-        .map(|&x| single(knots, curve, tags, slots, x))
-        .collect();
+    let each = all(places.iter().map(|&x| single(knots, curve, tags, slots, x)));
     let mut answers = vec![OLD; places.len() + 1];
     let told = many(knots, curve, tags, slots, places, &mut answers);
-    assert_eq!(told, each.as_ref().map(|_| ()).map_err(|&refusal| refusal));
+    assert_eq!(told, each.as_ref().map(|_| ()).map_err(|&refused| refused));
     let mut due = each.clone().unwrap_or(vec![OLD; places.len()]);
     due.push(OLD);
     assert_eq!(bits(&answers), bits(&due));
@@ -124,18 +122,22 @@ fn room_and_knots_come_before_any_query() {
         (&knots[..], &tags[..], &slots[1..], Refusal::BufferTooShort),
         (&knots[..], &tags[..], &slots[..], Refusal::BufferTooShort),
     ] {
-        assert_eq!(
-            lent::values(knots, &curve, tags, slots, &places, &mut one),
-            Err(refusal)
-        );
-        assert_eq!(
-            lent::primitives(knots, &curve, tags, slots, &places, &mut one),
-            Err(refusal)
-        );
+        // No single query is to blame.
+        let refused = Err(ManyRefused {
+            refusal,
+            query: None,
+        });
+        let values = lent::values(knots, &curve, tags, slots, &places, &mut one);
+        let primitives = lent::primitives(knots, &curve, tags, slots, &places, &mut one);
+        assert_eq!((values, primitives), (refused, refused));
     }
     assert_eq!(one, [OLD]);
     let told = lent::values(&knots, &curve, &tags, &slots, &places, &mut [OLD; 2]);
-    assert_eq!(told, Err(Refusal::QueryNotANumber));
+    let refused = ManyRefused {
+        refusal: Refusal::QueryNotANumber,
+        query: Some(0),
+    };
+    assert_eq!(told, Err(refused));
     assert_eq!(
         lent::values(&knots, &curve, &tags, &slots, &[], &mut []),
         Ok(())

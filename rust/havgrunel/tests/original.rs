@@ -1,4 +1,5 @@
-//! The original beside the crate: every number the same, bit for bit, any NaN matching any NaN.
+//! The original beside the crate: every number the same, bit for bit, any NaN matching any NaN. A price or a total that is not finite is
+//! refused here, and told by the original.
 
 mod drawn;
 
@@ -48,7 +49,10 @@ fn told(answer: Result<f64, Refusal>) -> Result<u64, u8> {
 }
 
 fn judged(answer: Result<f64, oracle::Refusal>) -> Result<u64, u8> {
-    answer.map(bits).map_err(oracle::Refusal::number)
+    match answer {
+        Ok(number) if !number.is_finite() => Err(Refusal::NotFinite.number()),
+        answer => answer.map(bits).map_err(oracle::Refusal::number),
+    }
 }
 
 fn same_section(mine: &Section, other: &oracle::Record) -> bool {
@@ -259,10 +263,16 @@ fn single_sections_are_the_same() {
         for _ in 0..6 {
             let x = price(&mut rng, style);
             let answers = mine.answers(x).expect("legal");
-            assert_eq!(
-                [answers.value, answers.primitive, answers.f_next].map(bits),
-                [other.value(x), other.primitive(x), other.f_next()].map(bits)
-            );
+            let due = [other.value(x), other.primitive(x)];
+            for (marked, due) in [answers.value, answers.primitive].into_iter().zip(due) {
+                assert_eq!(
+                    (bits(marked.number), marked.finite),
+                    (bits(due), due.is_finite())
+                );
+            }
+            assert_eq!(bits(answers.f_next), bits(other.f_next()));
+            assert_eq!(told(mine.value(x)), judged(Ok(due[0])));
+            assert_eq!(told(mine.primitive(x)), judged(Ok(due[1])));
         }
     }
 }

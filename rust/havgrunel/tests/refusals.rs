@@ -178,3 +178,26 @@ fn a_refusal_says_what_was_wrong() {
     let boxed: Box<dyn Error> = refusal.into();
     assert!(boxed.source().is_none());
 }
+
+/// A call for many says which was refused, where one of them is to blame, and goes where a refusal goes.
+#[test]
+fn a_refusal_of_many_says_which() {
+    let curve = ConvexMonotone::default().interpolate(&[0.0, 1.0], &[0.0, f64::MAX]);
+    let curve = curve.expect("builds").with_extrapolation(true);
+    let ask = |xs: &[f64]| -> Result<(), Refusal> { Ok(curve.primitives(xs, &mut [0.0; 2])?) };
+    assert_eq!(ask(&[0.5, 9.0]), Err(Refusal::NotFinite));
+    let refused = curve
+        .primitives(&[0.5, 9.0], &mut [0.0; 2])
+        .expect_err("is refused");
+    assert_eq!(
+        refused.to_string(),
+        "number 1, counted from 0: the answer is infinite or not a number (refusal 21)"
+    );
+    let refused = curve
+        .primitives(&[0.5, 9.0], &mut [])
+        .expect_err("is refused");
+    assert_eq!(refused.query, None);
+    assert_eq!(refused.to_string(), Refusal::BufferTooShort.to_string());
+    let boxed: Box<dyn Error> = refused.into();
+    assert!(boxed.source().is_none());
+}

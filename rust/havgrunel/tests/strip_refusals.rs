@@ -87,7 +87,7 @@ fn strips_are_refused_in_order() {
         let mut answers = [OLD];
         let told = lent::strips(knots, &curve, tags, slots, starts, ends, &mut answers);
         assert!(told.is_ok() || answers == [OLD]);
-        told.map_or_else(Refusal::number, |_| 0)
+        told.map_or_else(|many| many.refusal.number(), |_| 0)
     };
     let between = |knots: &[f64], column: &[f64], i: usize, j: usize| {
         lent::strip_between(knots, column, i, j).map_or_else(Refusal::number, |_| 0)

@@ -1,12 +1,13 @@
 //! Strips: each is the difference of two totals over its length, each step rounded once, whether it is asked by itself, among many or in a run. Compared
 //! bit for bit, any NaN matching any NaN.
 
+#[allow(dead_code)]
 mod asked;
 #[allow(dead_code)]
 mod columned;
 mod drawn;
 
-use asked::{OLD, bits, place};
+use asked::{NO_ROOM, OLD, all_or_nothing, place};
 use columned::{Built, built, told_bits};
 use havgrunel::{ConvexMonotone, Refusal};
 use oracle::answers::rng::Rng;
@@ -21,16 +22,16 @@ struct Seen {
 }
 
 impl Seen {
-    fn count<T>(&mut self, told: &Result<T, Refusal>) {
+    fn count<T, R: Into<Refusal>>(&mut self, told: Result<T, R>) {
         match told {
             Ok(_) => self.accepted += 1,
-            Err(refusal) => self.refused[usize::from(refusal.number())] += 1,
+            Err(refused) => self.refused[usize::from(refused.into().number())] += 1,
         }
     }
 
     /// All that a strip of a sound curve can be told came at least so often.
     fn all(&self, least: usize) {
-        for number in [12, 13, 15, 18] {
+        for number in [12, 13, 15, 18, 21] {
             let times = self.refused[number];
             assert!(times >= least, "refusal {number} came {times} times");
         }
@@ -70,32 +71,10 @@ fn a_strip_is_two_totals_over_its_length() {
                 told_bits(built.due(a, b)),
                 "from {a:?} to {b:?}"
             );
-            seen.count(&told);
+            seen.count(told);
         }
     }
     seen.all(100);
-}
-
-/// That a call for many tells what `due` says of each, writes all of it or nothing, and nothing behind it.
-fn all_or_nothing(
-    due: impl Iterator<Item = Result<f64, Refusal>>,
-    count: usize,
-    call: impl Fn(&mut [f64]) -> Result<(), Refusal>,
-) -> Result<(), Refusal> {
-    let due: Result<Vec<f64>, Refusal> = due.collect();
-    let mut answers = vec![OLD; count + 1];
-    let told = call(&mut answers);
-    assert_eq!(told, due.as_ref().map(|_| ()).map_err(|&refusal| refusal));
-    let mut left = due.unwrap_or(vec![OLD; count]);
-    left.push(OLD);
-    assert_eq!(bits(&answers), bits(&left));
-    // There is not room for all of them.
-    if count > 0 {
-        let mut answers = vec![OLD; count - 1];
-        assert_eq!(call(&mut answers), Err(Refusal::BufferTooShort));
-        assert!(answers.iter().all(|&answer| answer == OLD));
-    }
-    told
 }
 
 #[test]
@@ -128,14 +107,11 @@ fn many_and_runs_are_told_what_each_strip_is_told() {
         }
         let (starts, ends): (Vec<f64>, Vec<f64>) = pairs.iter().copied().unzip();
         let due = pairs.iter().map(|&(a, b)| built.strip(a, b));
-        let told = all_or_nothing(due, pairs.len(), |answers| {
-            built.strips(&starts, &ends, answers)
-        });
-        of_many.count(&told);
+        let told = all_or_nothing(due, |answers| built.strips(&starts, &ends, answers));
+        of_many.count(told);
         let due = edges.windows(2).map(|ends| built.strip(ends[0], ends[1]));
-        let strips = edges.len().saturating_sub(1);
-        let told = all_or_nothing(due, strips, |answers| built.strip_run(&edges, answers));
-        of_runs.count(&told);
+        let told = all_or_nothing(due, |answers| built.strip_run(&edges, answers));
+        of_runs.count(told);
     }
     of_many.all(20);
     of_runs.all(20);
@@ -150,7 +126,7 @@ fn a_run_of_no_strip() {
     assert_eq!(curve.strip_run(&[NAN], &mut []), Ok(()));
     assert_eq!(curve.strips(&[], &[], &mut []), Ok(()));
     let two = curve.strip_run(&[0.0, 1.0], &mut []);
-    assert_eq!(two, Err(Refusal::BufferTooShort));
+    assert_eq!(two, Err(NO_ROOM));
 }
 
 #[test]

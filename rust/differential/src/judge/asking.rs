@@ -1,15 +1,132 @@
-//! Curves that were built, asked for values and primitives.
+//! Curves that were built, asked for values and primitives: one by one, and several at once.
 
 use havgrunel::ffi;
 use havgrunel::lent::Curve;
 use oracle::Record;
 
-use super::strips::Asking;
-use super::{Agreed, Judge, Mismatch, same_float, same_number, tail};
+use super::several::{Due, Several, all, of_the_curve, same_answer};
+use super::{Agreed, Judge, Mismatch, same_number, tail};
 use crate::case::Queries;
+use crate::counts::Counts;
+use crate::counts::marks::Of;
 use crate::expected;
-use crate::lent::{Lent, is_old, old};
-use crate::strip::Rule;
+use crate::lent::{Lent, old};
+use crate::{mark, strip};
+
+/// A curve as it is asked, and the rules by which it is judged.
+pub(super) struct Asking<'a> {
+    pub knots: &'a [f64],
+    pub tags: &'a [u16],
+    pub slots: &'a [f64],
+    pub curve: Curve,
+    /// Entries for the answer of one query or strip.
+    pub entries: usize,
+    pub marks: mark::Rule,
+    pub strips: strip::Rule,
+}
+
+/// What the original answers at a place, its price and its total, or its refusal.
+pub(super) type Answer = Result<[f64; 2], u8>;
+
+type One = fn(&[f64], &[u16], &[f64], &Curve, f64, &mut [f64]) -> u8;
+type Many = fn(&[f64], &[u16], &[f64], &Curve, &[f64], &mut [f64]) -> ffi::Many;
+
+/// One of the two numbers that are asked for at a place.
+struct Figure {
+    names: [&'static str; 2],
+    one: One,
+    many: Many,
+    due: fn(mark::Rule, mark::Asked) -> Due,
+    of: Of,
+    number: fn([f64; 2]) -> f64,
+}
+
+const FIGURES: [Figure; 2] = [
+    Figure {
+        names: ["a value", "a value's refusal"],
+        one: ffi::value,
+        many: ffi::values,
+        due: |rule, asked| (rule.value)(asked),
+        of: Of::Values,
+        number: |[value, _]| value,
+    },
+    Figure {
+        names: ["a primitive", "a primitive's refusal"],
+        one: ffi::primitive,
+        many: ffi::primitives,
+        due: |rule, asked| (rule.primitive)(asked),
+        of: Of::Primitives,
+        number: |[_, primitive]| primitive,
+    },
+];
+
+const SEVERAL: Several = Several {
+    part: "one of several queries",
+    refusal: "a refusal of several queries",
+    accepted: |counts| counts.marks.see(Of::Queries),
+    refused: |counts| counts.marks.see(Of::QueriesRefused),
+    by_the_mark: |counts| counts.marks.see(Of::FirstQuery),
+};
+
+impl Asking<'_> {
+    /// What is due of one figure, where the original answers so.
+    fn due(&self, figure: &Figure, answer: Answer) -> Due {
+        answer.and_then(|[value, primitive]| {
+            (figure.due)(self.marks, mark::Asked { value, primitive })
+        })
+    }
+
+    /// Asks for the price and the total at a place, each by itself, and holds them against what is due.
+    pub fn query(&self, x: f64, answer: Answer, counts: &mut Counts) -> Agreed {
+        // An answer's own buffer is looked at with the curve's: after 4, 5, 7 and 10, before 12, 13, 15 and 21.
+        let answer = match answer {
+            Ok(_) | Err(12 | 13 | 15) if self.entries == 0 => Err(11),
+            answer => answer,
+        };
+        counts.queries += 2;
+        for figure in &FIGURES {
+            let mut kept = [old(0), old(1), old(2)];
+            let room = &mut kept[..self.entries.min(3)];
+            let number = (figure.one)(self.knots, self.tags, self.slots, &self.curve, x, room);
+            counts.number(number);
+            let due = self.due(figure, answer);
+            same_answer(figure.names, number, &kept, due).map_err(|mismatch| Mismatch {
+                told: format!("at {:016x} ({x:?}): {}", x.to_bits(), mismatch.told),
+                query: Some((self.curve.extrapolates, x)),
+                ..mismatch
+            })?;
+            if let (Ok(answer), Err(mark::NOT_FINITE)) = (answer, due) {
+                counts.marks.answer(figure.of, (figure.number)(answer));
+            }
+        }
+        Ok(())
+    }
+
+    /// Asks for all of these places at once, as they come and without those that are refused.
+    pub fn queries(&self, asked: &[(f64, Answer)], counts: &mut Counts) -> Agreed {
+        let Some(&(_, first)) = asked.first() else {
+            return Ok(());
+        };
+        let curve = of_the_curve(first);
+        for figure in &FIGURES {
+            let due = |&(x, answer): &(f64, Answer)| (x, self.due(figure, answer));
+            let each: Vec<(f64, Due)> = asked.iter().map(due).collect();
+            let told: Vec<(f64, Due)> = each.iter().copied().filter(|(_, d)| d.is_ok()).collect();
+            for each in [&each, &told] {
+                let xs: Vec<f64> = each.iter().map(|&(x, _)| x).collect();
+                let due = all(each.iter().map(|&(_, due)| due));
+                SEVERAL.check(xs.len(), due, curve, counts, |answers| {
+                    let (tags, slots) = (self.tags, self.slots);
+                    (figure.many)(self.knots, tags, slots, &self.curve, &xs, answers)
+                })?;
+                if each.len() == told.len() {
+                    break;
+                }
+            }
+        }
+        Ok(())
+    }
+}
 
 impl Judge {
     /// Asks the curve that was just written, and hands back the one that it is held against.
@@ -20,26 +137,21 @@ impl Judge {
         curve: expected::Curve,
         queries: &Queries,
     ) -> Result<expected::Curve, Mismatch> {
-        let breaks = if queries.breaks {
-            breaks(&curve)
-        } else {
-            Vec::new()
-        };
-        for &x in queries.inside.iter().chain(&breaks) {
-            self.asked(knots, held, &curve, false, x)?;
+        let mut inside = queries.inside.clone();
+        if queries.breaks {
+            inside.extend(breaks(&curve));
         }
+        self.asked(knots, held, &curve, false, &inside)?;
         self.asked_strips(knots, held, &curve, false, &queries.strips.inside)?;
         let curve = curve.with_extrapolation(true);
-        for &x in &queries.anywhere {
-            self.asked(knots, held, &curve, true, x)?;
-        }
+        self.asked(knots, held, &curve, true, &queries.anywhere)?;
         self.asked_strips(knots, held, &curve, true, &queries.strips.anywhere)?;
         let curve = curve.with_extrapolation(false);
         let column: Vec<f64> = curve.entries(knots).map(|entry| entry.total).collect();
-        let asking = asking(knots, &self.lent, held, false, self.strips);
+        let (asking, counts) = self.asking(knots, held, false);
         for &places in &queries.strips.between {
-            asking.between(&column, places, &mut self.counts)?;
-            asking.between(&column[1..], places, &mut self.counts)?;
+            asking.between(&column, places, counts)?;
+            asking.between(&column[1..], places, counts)?;
         }
         Ok(curve)
     }
@@ -53,8 +165,8 @@ impl Judge {
         strips: &[(f64, f64)],
     ) -> Agreed {
         let total = |x: f64| curve.answers(x).map(|[_, total]| total);
-        let asking = asking(knots, &self.lent, held, allow, self.strips);
-        asking.strips(strips, total, &mut self.counts)
+        let (asking, counts) = self.asking(knots, held, allow);
+        asking.strips(strips, total, counts)
     }
 
     fn asked(
@@ -63,26 +175,44 @@ impl Judge {
         held: bool,
         curve: &expected::Curve,
         allow: bool,
-        x: f64,
+        xs: &[f64],
     ) -> Agreed {
-        let (lent, mine) = (&self.lent, mine(&self.lent, held, allow));
-        let here = |mut mismatch: Mismatch| {
-            mismatch.query = Some((allow, x));
-            mismatch
-        };
-        let due = curve.answers(x);
-        let number = query(knots, &lent.tags, &lent.slots, &mine, x, 1, due).map_err(here)?;
-        self.counts.queries += 2;
-        self.counts.number(number);
-        // The derivative's refusal is the same everywhere, so not every query asks for it.
-        if allow || !x.is_finite() {
-            let judged = curve.derivative(x).map_err(oracle::Refusal::number);
-            let due = judged.err().unwrap_or(0);
-            let number = ffi::derivative(x);
-            self.counts.number(number);
-            same_number("the derivative", number, due).map_err(here)?;
+        let (asking, counts) = self.asking(knots, held, allow);
+        let answers: Vec<(f64, Answer)> = xs.iter().map(|&x| (x, curve.answers(x))).collect();
+        for &(x, answer) in &answers {
+            asking.query(x, answer, counts)?;
+            // The derivative's refusal is the same everywhere, so not every query asks for it.
+            if allow || !x.is_finite() {
+                let judged = curve.derivative(x).map_err(oracle::Refusal::number);
+                let due = judged.err().unwrap_or(0);
+                let number = ffi::derivative(x);
+                counts.number(number);
+                same_number("the derivative", number, due).map_err(|mismatch| Mismatch {
+                    query: Some((allow, x)),
+                    ..mismatch
+                })?;
+            }
         }
-        Ok(())
+        asking.queries(&answers, counts)
+    }
+
+    /// The curve that was just written, to be asked.
+    fn asking<'a>(
+        &'a mut self,
+        knots: &'a [f64],
+        held: bool,
+        allow: bool,
+    ) -> (Asking<'a>, &'a mut Counts) {
+        let asking = Asking {
+            knots,
+            tags: &self.lent.tags,
+            slots: &self.lent.slots,
+            curve: mine(&self.lent, held, allow),
+            entries: 1,
+            marks: self.marks,
+            strips: self.strips,
+        };
+        (asking, &mut self.counts)
     }
 }
 
@@ -94,60 +224,6 @@ fn mine(lent: &Lent, held: bool, allow: bool) -> Curve {
         extrapolates: allow,
         tail: tail(&lent.tail),
     }
-}
-
-/// The curve that was just written, asked for strips.
-fn asking<'a>(knots: &'a [f64], lent: &'a Lent, held: bool, allow: bool, rule: Rule) -> Asking<'a> {
-    Asking {
-        knots,
-        tags: &lent.tags,
-        slots: &lent.slots,
-        curve: mine(lent, held, allow),
-        entries: 1,
-        rule,
-    }
-}
-
-/// Asks the library for value and primitive, into so many entries, and holds them against what is due. Answers the number.
-pub(super) fn query(
-    knots: &[f64],
-    tags: &[u16],
-    slots: &[f64],
-    curve: &Curve,
-    x: f64,
-    entries: usize,
-    due: Result<[f64; 2], u8>,
-) -> Result<u8, Mismatch> {
-    // An answer's own buffer is looked at with the curve's: after 4, 5, 7 and 10, before 12, 13 and 15.
-    let due = match due {
-        Ok(_) | Err(12 | 13 | 15) if entries == 0 => Err(11),
-        due => due,
-    };
-    let mut number = 0;
-    for (place, part) in ["a value", "a primitive"].into_iter().enumerate() {
-        let mut kept = [old(0), old(1), old(2)];
-        let answer = &mut kept[..entries.min(3)];
-        number = if place == 0 {
-            ffi::value(knots, tags, slots, curve, x, answer)
-        } else {
-            ffi::primitive(knots, tags, slots, curve, x, answer)
-        };
-        let refusal = ["a value's refusal", "a primitive's refusal"][place];
-        same_number(refusal, number, due.err().unwrap_or(0))?;
-        let what = || format!("{part} at {:016x} ({x:?})", x.to_bits());
-        let mut written = 0;
-        if let Ok(due) = due {
-            written = 1;
-            same_float(part, what, kept[0], due[place])?;
-        }
-        for (place, &answer) in kept.iter().enumerate().skip(written) {
-            if !is_old(place, answer) {
-                let told = format!("{}: answer {place} was written to", what());
-                return Err(Mismatch::new("a lent buffer", told));
-            }
-        }
-    }
-    Ok(number)
 }
 
 /// Where the formulas of a curve's sections change, and beside it. Of a long curve only some sections are looked at.

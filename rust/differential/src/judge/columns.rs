@@ -1,9 +1,13 @@
 //! Curves that are built or grown a second time, with a column.
 
+use havgrunel::ffi;
+
+use super::several::same_answer;
 use super::{Agreed, Judge, Mismatch, same_float, same_number};
 use crate::counts::strips::Of;
+use crate::counts::{Counts, marks};
 use crate::expected::Curve;
-use crate::lent::{is_old, marked};
+use crate::lent::{is_old, marked, old};
 
 impl Judge {
     /// That a call with a column told what is due and left what the call without one left, and beside it the curve's column; `due` is what
@@ -39,7 +43,31 @@ impl Judge {
             let what = || format!("column entry {place} of {points}");
             same_float("an entry of a column", what, mine, due)?;
             self.counts.strips.entry(&entry);
+            let told = (self.strips.read)(due);
+            if told.is_err() {
+                self.counts.marks.answer(marks::Of::Entries, due);
+            }
+            read(&beside.column, place, 2, told, &mut self.counts)?;
         }
-        Ok(())
+        // No entry, and no room for one.
+        for place in [beside.column.len(), usize::MAX] {
+            read(&beside.column, place, 2, Err(11), &mut self.counts)?;
+        }
+        read(&beside.column, 0, 0, Err(11), &mut self.counts)
     }
+}
+
+/// That the entry of a column is read so, into so much room.
+fn read(
+    column: &[f64],
+    place: usize,
+    room: usize,
+    due: Result<f64, u8>,
+    counts: &mut Counts,
+) -> Agreed {
+    let mut answer = [old(0), old(1)];
+    let number = ffi::column_entry(column, place, &mut answer[..room]);
+    counts.number(number);
+    let names = ["an entry that is read", "the refusal of an entry"];
+    same_answer(names, number, &answer, due)
 }

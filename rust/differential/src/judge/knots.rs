@@ -3,7 +3,7 @@
 use havgrunel::lent::Curve;
 use oracle::Settings;
 
-use super::{Agreed, Judge, built, query, tail};
+use super::{Agreed, Asking, Judge, built, tail};
 
 /// Settings that nothing refuses.
 const SOUND: Settings = Settings {
@@ -26,10 +26,17 @@ impl Judge {
             extrapolates: true,
             tail: tail(&[0.0; 3]),
         };
-        let (tags, slots) = (&self.lent.tags, &self.lent.slots);
-        let number = query(knots, tags, slots, &curve, 0.0, 1, Err(due))?;
-        self.counts.queries += 2;
-        self.counts.number(number);
+        let asking = Asking {
+            knots,
+            tags: &self.lent.tags,
+            slots: &self.lent.slots,
+            curve,
+            entries: 1,
+            marks: self.marks,
+            strips: self.strips,
+        };
+        asking.query(0.0, Err(due), &mut self.counts)?;
+        asking.queries(&[(0.0, Err(due))], &mut self.counts)?;
         self.counts.refused_knots += 1;
         let fall = knots.windows(2).position(|pair| pair[0] >= pair[1]);
         let bad = knots.iter().position(|knot| !knot.is_finite());

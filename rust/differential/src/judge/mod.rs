@@ -1,5 +1,8 @@
 //! Both sides are asked, and every number is held against the other's.
 //!
+//! A price, a total or a strip that the original tells and that is not finite is due as refusal 21; what is stored is compared by its bits
+//! all the same.
+//!
 //! What the original can't be asked is judged by the document: more points than the library takes, short buffers, records that are
 //! not legal, and counts of the largest number, where the original's own sum overflows. The original has neither a careful nor a safe
 //! mode: there its sections are made anew that the mode's rule is about, by the rule as it is written.
@@ -10,6 +13,7 @@ mod growth;
 mod knots;
 mod reading;
 mod section;
+mod several;
 mod sheets;
 mod strips;
 
@@ -19,11 +23,12 @@ use oracle::words::{bits, same};
 use oracle::{Record, Settings};
 
 use crate::case::{Case, Queries, Room, Table};
+use crate::counts::marks::{Marks, Of};
 use crate::counts::{Counts, Way};
 use crate::expected::{Curve, Rule};
 use crate::lent::{Columned, Lent};
-use crate::{at_knots, careful, safe, strip};
-use asking::{breaks, query};
+use crate::{at_knots, careful, mark, safe, strip};
+use asking::{Asking, breaks};
 
 /// A number that is not the other side's.
 #[derive(Clone)]
@@ -125,6 +130,7 @@ pub struct Judge {
     safe: safe::Rule,
     at_knots: at_knots::Rule,
     strips: strip::Rule,
+    marks: mark::Rule,
 }
 
 impl Default for Judge {
@@ -138,6 +144,7 @@ impl Default for Judge {
             safe: safe::RULE,
             at_knots: at_knots::own,
             strips: strip::RULE,
+            marks: mark::RULE,
         }
     }
 }
@@ -171,6 +178,14 @@ impl Judge {
     pub fn strips_by(strips: strip::Rule) -> Judge {
         Judge {
             strips,
+            ..Judge::default()
+        }
+    }
+
+    /// One that judges by this rule which prices and totals are told.
+    pub fn marked_by(marks: mark::Rule) -> Judge {
+        Judge {
+            marks,
             ..Judge::default()
         }
     }
@@ -306,16 +321,17 @@ impl Judge {
         let what = || format!("section {place}");
         same_fields(lent.tags[place], fields, &record, what)?;
         same_at_knots(record.tag, at_knots, (self.at_knots)(&asked), what)?;
-        let mut answers = [0.0; 3];
+        let (mut answers, mut finite) = ([0.0; 3], [false; 2]);
         let at = knots[place + 1];
-        let number = ffi::section(lent.tags[place], slots, at, &mut answers);
+        let number = ffi::section(lent.tags[place], slots, at, &mut answers, &mut finite);
         same_number("a built section's refusal", number, 0)?;
         let due = [
             curve.section_value(place, at),
             curve.section_primitive(place, at),
             curve.f_next(place),
         ];
-        same_answers(&answers, &due, at)
+        same_answers(&answers, &due, at)?;
+        same_marks(self.marks, &finite, &due, at, &mut self.counts.marks)
     }
 }
 
@@ -381,6 +397,43 @@ fn same_answers(mine: &[f64], due: &[f64; 3], at: f64) -> Agreed {
     for ((part, &mine), &other) in parts.into_iter().zip(mine).zip(due) {
         let what = || format!("{part} of a section at {:016x} ({at:?})", at.to_bits());
         same_float(part, what, mine, other)?;
+    }
+    Ok(())
+}
+
+/// That a section marks its price and its total so. Its numbers are handed back whatever they are, and so are compared by their bits as
+/// well.
+fn same_marks(
+    rule: mark::Rule,
+    finite: &[bool],
+    due: &[f64; 3],
+    at: f64,
+    marks: &mut Marks,
+) -> Agreed {
+    let [value, primitive, _] = *due;
+    let asked = mark::Asked { value, primitive };
+    for (place, (part, due, of)) in [
+        ("a value's mark", (rule.value)(asked), Of::SectionValues),
+        (
+            "a primitive's mark",
+            (rule.primitive)(asked),
+            Of::SectionPrimitives,
+        ),
+    ]
+    .into_iter()
+    .enumerate()
+    {
+        if finite[place] != due.is_ok() {
+            let told = format!(
+                "{part} at {:016x} ({at:?}): the library says finite: {}",
+                at.to_bits(),
+                finite[place]
+            );
+            return Err(Mismatch::new(part, told));
+        }
+        if due.is_err() {
+            marks.answer(of, [value, primitive][place]);
+        }
     }
     Ok(())
 }

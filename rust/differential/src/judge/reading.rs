@@ -4,8 +4,8 @@ use havgrunel::lent::{Curve, Tail};
 use havgrunel::{MOST_POINTS, SLOTS, ffi};
 use oracle::Recipe;
 
-use super::strips::Asking;
-use super::{Agreed, Judge, Mismatch, breaks, built, due, query, record_at, same_number, tail};
+use super::asking::Answer;
+use super::{Agreed, Asking, Judge, Mismatch, breaks, built, due, record_at, same_number, tail};
 use crate::case::{Reading, Room};
 use crate::expected::{self, Rule};
 use crate::lent::{is_old, old};
@@ -45,7 +45,7 @@ impl Judge {
                 *old = slot;
             }
         }
-        let mut curve = Curve {
+        let curve = Curve {
             sections: points - 1,
             held: table.hold,
             extrapolates: false,
@@ -54,35 +54,30 @@ impl Judge {
                 .map_or_else(|| tail(&self.lent.tail), |told| tail(&told)),
         };
         let queries = &reading.queries;
-        let inside = queries.inside.iter().chain(&breaks).map(|&x| (false, x));
-        for (allow, x) in inside.chain(queries.anywhere.iter().map(|&x| (true, x))) {
-            curve.extrapolates = allow;
-            let due = answer(&reading.knots, &tags, &slots, &curve, x);
-            let number = query(
-                &reading.knots,
-                &tags,
-                &slots,
-                &curve,
-                x,
-                reading.answer,
-                due,
-            )
-            .map_err(|mut mismatch| {
-                mismatch.query = Some((allow, x));
-                mismatch
-            })?;
-            self.counts.queries += 2;
-            self.counts.number(number);
-        }
-        let strips = &queries.strips;
+        let inside: Vec<f64> = queries.inside.iter().chain(&breaks).copied().collect();
         let mut asking = Asking {
             knots: &reading.knots,
             tags: &tags,
             slots: &slots,
             curve,
             entries: reading.answer,
-            rule: self.strips,
+            marks: self.marks,
+            strips: self.strips,
         };
+        for (allow, xs) in [(false, &inside), (true, &queries.anywhere)] {
+            asking.curve.extrapolates = allow;
+            let curve = &asking.curve;
+            let asked = xs.iter().map(|&x| {
+                let answer = answer(&reading.knots, &tags, &slots, curve, x);
+                (x, answer)
+            });
+            let asked: Vec<(f64, Answer)> = asked.collect();
+            for &(x, answer) in &asked {
+                asking.query(x, answer, &mut self.counts)?;
+            }
+            asking.queries(&asked, &mut self.counts)?;
+        }
+        let strips = &queries.strips;
         for (allow, strips) in [(false, &strips.inside), (true, &strips.anywhere)] {
             asking.curve.extrapolates = allow;
             let curve = asking.curve;
@@ -133,13 +128,7 @@ impl Judge {
 }
 
 /// What the document has a query answer, over any knots and records; the numbers are the original's sections'.
-fn answer(
-    knots: &[f64],
-    tags: &[u16],
-    slots: &[f64],
-    curve: &Curve,
-    x: f64,
-) -> Result<[f64; 2], u8> {
+fn answer(knots: &[f64], tags: &[u16], slots: &[f64], curve: &Curve, x: f64) -> Answer {
     let points = knots.len();
     if points < 2 {
         return Err(4);

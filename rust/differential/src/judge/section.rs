@@ -3,7 +3,7 @@
 use havgrunel::{FIELDS, Split, ffi};
 use oracle::{Convex, Quadratic, Recipe, Record};
 
-use super::{Agreed, Judge, Mismatch, same_answers, same_fields, same_number};
+use super::{Agreed, Judge, Mismatch, same_answers, same_fields, same_marks, same_number};
 use crate::case::Single;
 use crate::expected::Section;
 use crate::lent::{is_old, old};
@@ -68,17 +68,9 @@ impl Judge {
             self.counts.single(record.tag);
             return self.section_asked(record.tag, &slots, judged, asked);
         }
-        let mut answers: Vec<f64> = (0..entries).map(old).collect();
-        let number = ffi::section(record.tag, &slots, 0.0, &mut answers);
+        let number = refused(record.tag, &slots, entries, 2)?;
         self.counts.number(number);
-        same_number("a record's refusal", number, due)?;
-        for (place, &answer) in answers.iter().enumerate() {
-            if !is_old(place, answer) {
-                let told = format!("answer {place} was written to");
-                return Err(Mismatch::new("a lent buffer", told));
-            }
-        }
-        Ok(())
+        same_number("a record's refusal", number, due)
     }
 
     fn section_asked(
@@ -88,9 +80,16 @@ impl Judge {
         judged: &Section,
         asked: &[f64],
     ) -> Agreed {
+        // Room for one mark or none is too little.
+        for marks in 0..2 {
+            let number = refused(tag, slots, 3, marks)?;
+            self.counts.number(number);
+            same_number("a refusal for short marks", number, 11)?;
+        }
         for &x in asked {
             let mut answers = [old(0), old(1), old(2), old(3)];
-            let number = ffi::section(tag, slots, x, &mut answers);
+            let mut finite = [false; 3];
+            let number = ffi::section(tag, slots, x, &mut answers, &mut finite);
             self.counts.number(number);
             self.counts.queries += 2;
             let here = |mut mismatch: Mismatch| {
@@ -100,13 +99,42 @@ impl Judge {
             same_number("a section's refusal", number, 0).map_err(here)?;
             let due = [judged.value(x), judged.primitive(x), judged.f_next()];
             same_answers(&answers[..3], &due, x).map_err(here)?;
+            same_marks(self.marks, &finite, &due, x, &mut self.counts.marks).map_err(here)?;
             if !is_old(3, answers[3]) {
                 let told = "answer 3 was written to".into();
+                return Err(here(Mismatch::new("a lent buffer", told)));
+            }
+            // The same over marks that stood the other way.
+            let mut others = [true; 3];
+            ffi::section(tag, slots, x, &mut answers, &mut others);
+            if finite[..2] != others[..2] || finite[2] || !others[2] {
+                let told = format!("the marks are {finite:?}, and {others:?} over others");
                 return Err(here(Mismatch::new("a lent buffer", told)));
             }
         }
         Ok(())
     }
+}
+
+/// The number by which a section is refused that is lent so much room, whatever stands in it: nothing is written.
+fn refused(tag: u16, slots: &[f64], entries: usize, marks: usize) -> Result<u8, Mismatch> {
+    let mut number = 0;
+    for stood in [false, true] {
+        let mut answers: Vec<f64> = (0..entries).map(old).collect();
+        let mut finite = vec![stood; marks];
+        number = ffi::section(tag, slots, 0.0, &mut answers, &mut finite);
+        for (place, &answer) in answers.iter().enumerate() {
+            if number != 0 && !is_old(place, answer) {
+                let told = format!("answer {place} was written to");
+                return Err(Mismatch::new("a lent buffer", told));
+            }
+        }
+        if number != 0 && finite.iter().any(|&mark| mark != stood) {
+            let told = "a mark was written to".into();
+            return Err(Mismatch::new("a lent buffer", told));
+        }
+    }
+    Ok(number)
 }
 
 fn quadratic_made(part: &Quadratic, split: Split, tag: &mut u16, slots: &mut [f64]) -> u8 {

@@ -1,53 +1,29 @@
 //! Curves that were built, asked for strips: one by one, several at once, in runs and between places.
 
-use havgrunel::lent::Curve;
 use havgrunel::{MOST_POINTS, ffi};
 
-use super::{Agreed, Mismatch, same_float, same_number};
-use crate::counts::Counts;
+use super::several::{Due, Several, all, of_the_curve, same_answer, same_many};
+use super::{Agreed, Asking, Mismatch};
 use crate::counts::strips::Of;
-use crate::lent::{mark, marked};
-use crate::strip::{Between, Rule, STRIP_ENDS_NOT_RISING, Strip};
+use crate::counts::{Counts, marks};
+use crate::lent::mark;
+use crate::mark::NOT_FINITE;
+use crate::strip::{Between, STRIP_ENDS_NOT_RISING, Strip};
 
-/// What is asked, and by which rule it is judged.
-pub(super) struct Asking<'a> {
-    pub knots: &'a [f64],
-    pub tags: &'a [u16],
-    pub slots: &'a [f64],
-    pub curve: Curve,
-    /// Entries for the answer of one strip.
-    pub entries: usize,
-    pub rule: Rule,
-}
+const MANY: Several = Several {
+    part: "one of several strips",
+    refusal: "a refusal of several strips",
+    accepted: |counts| counts.strips.see(Of::Many),
+    refused: |counts| counts.strips.see(Of::ManyRefused),
+    by_the_mark: |counts| counts.marks.see(marks::Of::FirstStrip),
+};
 
-type Due = Result<f64, u8>;
-
-/// The refusals that come before any strip is looked at.
-fn of_the_curve(due: Due) -> Option<u8> {
-    due.err()
-        .filter(|number| matches!(number, 4 | 5 | 7 | 10 | 11))
-}
-
-/// What is due of several strips at once: all prices, or the first refusal.
-fn all(due: impl Iterator<Item = Due>) -> Result<Vec<f64>, u8> {
-    due.collect()
-}
-
-/// That a call told this number and wrote these answers, and nothing else into its marked buffer.
-fn same_written(
-    part: &'static str,
-    refusal: &'static str,
-    number: u8,
-    answers: &[f64],
-    due: &Result<Vec<f64>, u8>,
-) -> Agreed {
-    same_number(refusal, number, due.as_ref().err().copied().unwrap_or(0))?;
-    let due = due.as_deref().unwrap_or(&[]);
-    for (place, (&mine, &other)) in answers.iter().zip(due).enumerate() {
-        same_float(part, || format!("{part}, answer {place}"), mine, other)?;
-    }
-    marked("answer", answers, due.len()..usize::MAX)
-}
+const RUN: Several = Several {
+    accepted: |counts| counts.strips.see(Of::Runs),
+    refused: |counts| counts.strips.see(Of::RunsRefused),
+    by_the_mark: |counts| counts.marks.see(marks::Of::FirstOfRun),
+    ..MANY
+};
 
 impl Asking<'_> {
     /// Asks for these strips in every way. `total` is what a query for the total answers.
@@ -61,37 +37,50 @@ impl Asking<'_> {
             let (from, to) = (total(a), total(b));
             Strip { a, b, from, to }
         };
-        let due = |ends: &(f64, f64)| (self.rule.strip)(&strip(ends));
+        let due = |ends: &(f64, f64)| (self.strips.strip)(&strip(ends));
         let curve = of_the_curve(total(f64::NAN));
         for ends in strips {
-            let allow = self.curve.extrapolates;
-            self.one(&strip(ends), counts)
-                .map_err(|mismatch| Mismatch {
-                    strip: Some((allow, *ends)),
-                    ..mismatch
-                })?;
+            self.one(&strip(ends), counts)?;
         }
+        // Those whose number is told or not finite, and those whose number is told.
+        let answered = |strip: &&(f64, f64)| matches!(due(strip), Ok(_) | Err(NOT_FINITE));
+        let answered: Vec<(f64, f64)> = strips.iter().filter(answered).copied().collect();
         let accepted = |strip: &&(f64, f64)| due(strip).is_ok();
         let accepted: Vec<(f64, f64)> = strips.iter().filter(accepted).copied().collect();
-        for strips in [strips, &accepted] {
+        for strips in [strips, &answered, &accepted] {
             self.many(strips, all(strips.iter().map(due)), curve, counts)?;
         }
-        // The ends as they come, and those of strips that are accepted in rising order.
+        // The ends as they come, and those of strips that are answered in rising order.
         let ends = |strips: &[(f64, f64)]| -> Vec<f64> {
             strips.iter().flat_map(|&(a, b)| [a, b]).collect()
         };
-        let mut rising = ends(&accepted);
+        let mut rising = ends(&answered);
         rising.sort_by(f64::total_cmp);
         rising.dedup();
         for edges in [ends(strips), rising] {
-            let due = all(edges.windows(2).map(|ends| due(&(ends[0], ends[1]))));
-            self.run(&edges, due, curve, counts)?;
+            let strips: Vec<(f64, f64)> = edges.windows(2).map(|ab| (ab[0], ab[1])).collect();
+            let each: Vec<Due> = strips.iter().map(due).collect();
+            self.run(&edges, &each, curve, counts)?;
+            // A run says no more than its first strip that is not finite: the others are asked one by one, and in the runs between such
+            // strips.
+            let Err((NOT_FINITE, _)) = all(each.iter().copied()) else {
+                continue;
+            };
+            for ends in &strips {
+                self.one(&strip(ends), counts)?;
+            }
+            let mut from = 0;
+            for between in each.split(Result::is_err) {
+                let edges = &edges[from..=from + between.len()];
+                self.run(edges, between, curve, counts)?;
+                from += between.len() + 1;
+            }
         }
         Ok(())
     }
 
     fn one(&self, strip: &Strip, counts: &mut Counts) -> Agreed {
-        let due = (self.rule.strip)(strip);
+        let due = (self.strips.strip)(strip);
         self.see(strip, due, counts);
         // An answer without room is told where 11 stands, after what is wrong with the knots.
         let short = self.entries == 0 && of_the_curve(due).is_none();
@@ -108,8 +97,11 @@ impl Asking<'_> {
             &mut answer,
         );
         counts.number(number);
-        let due = due.map(|price| vec![price]);
-        same_written("a strip", "a strip's refusal", number, &answer, &due)
+        let names = ["a strip", "a strip's refusal"];
+        same_answer(names, number, &answer, due).map_err(|mismatch| Mismatch {
+            strip: Some((self.curve.extrapolates, (strip.a, strip.b))),
+            ..mismatch
+        })
     }
 
     fn see(&self, strip: &Strip, due: Due, counts: &mut Counts) {
@@ -119,8 +111,14 @@ impl Asking<'_> {
         if from.is_ok() && to.is_err() {
             strips.see(Of::SecondEnd);
         }
+        if let (Err(NOT_FINITE), Some(number)) = (due, strip.number()) {
+            counts.marks.answer(marks::Of::Strips, number);
+            if from.is_ok_and(f64::is_finite) && to.is_ok_and(f64::is_finite) {
+                counts.marks.see(marks::Of::FiniteTotals);
+            }
+        }
         match due {
-            Ok(_) => {
+            Ok(_) | Err(NOT_FINITE) => {
                 let (first, last) = (self.knots[0], self.knots[self.knots.len() - 1]);
                 let across = self.knots.iter().any(|&knot| a < knot && knot < b);
                 strips.see(match () {
@@ -134,11 +132,10 @@ impl Asking<'_> {
         }
     }
 
-    /// Several at once, into just enough room and two entries more, and into too little.
     fn many(
         &self,
         strips: &[(f64, f64)],
-        due: Result<Vec<f64>, u8>,
+        due: Result<Vec<f64>, (u8, usize)>,
         curve: Option<u8>,
         counts: &mut Counts,
     ) -> Agreed {
@@ -147,28 +144,21 @@ impl Asking<'_> {
             let (tags, slots) = (self.tags, self.slots);
             ffi::strips(self.knots, tags, slots, &self.curve, starts, &ends, answers)
         };
-        let seen = [Of::Many, Of::ManyRefused];
-        several(strips.len(), due, curve, seen, counts, |answers| {
+        MANY.check(strips.len(), due, curve, counts, |answers| {
             call(&starts, answers)
         })?;
         if let Some((_, fewer)) = starts.split_last() {
-            let number = call(fewer, &mut []);
-            counts.number(number);
-            same_number("a refusal of unequal lists", number, 1)?;
+            let told = call(fewer, &mut []);
+            counts.number(told.refusal);
+            let refusal = "a refusal of unequal lists";
+            same_many(refusal, told, Some((1, fewer.len())), fewer.len())?;
         }
         Ok(())
     }
 
-    fn run(
-        &self,
-        edges: &[f64],
-        due: Result<Vec<f64>, u8>,
-        curve: Option<u8>,
-        counts: &mut Counts,
-    ) -> Agreed {
-        let strips = edges.len().saturating_sub(1);
-        let seen = [Of::Runs, Of::RunsRefused];
-        several(strips, due, curve, seen, counts, |answers| {
+    fn run(&self, edges: &[f64], each: &[Due], curve: Option<u8>, counts: &mut Counts) -> Agreed {
+        let due = all(each.iter().copied());
+        RUN.check(each.len(), due, curve, counts, |answers| {
             let (tags, slots) = (self.tags, self.slots);
             ffi::strip_run(self.knots, tags, slots, &self.curve, edges, answers)
         })
@@ -177,18 +167,19 @@ impl Asking<'_> {
     /// A strip between two places of a column, which may be too short.
     pub fn between(&self, column: &[f64], (i, j): (usize, usize), counts: &mut Counts) -> Agreed {
         let knots = self.knots;
+        let asked = Between {
+            knots,
+            column,
+            i,
+            j,
+        };
         let due = match () {
             () if knots.len() < 2 => Err(4),
             () if !knots.iter().all(|knot| knot.is_finite()) => Err(5),
             () if !knots.windows(2).all(|pair| pair[0] < pair[1]) => Err(7),
             () if knots.len() > MOST_POINTS => Err(10),
             () if column.len() < knots.len() || self.entries == 0 => Err(11),
-            () => (self.rule.between)(&Between {
-                knots,
-                column,
-                i,
-                j,
-            }),
+            () => (self.strips.between)(&asked),
         };
         let mut answer = Vec::new();
         mark(&mut answer, self.entries);
@@ -196,46 +187,20 @@ impl Asking<'_> {
         counts.number(number);
         match due {
             Ok(_) => counts.strips.see(Of::Between),
+            Err(NOT_FINITE) => {
+                counts.strips.see(Of::Between);
+                if let Some(number) = asked.number() {
+                    counts.marks.answer(marks::Of::Between, number);
+                }
+            }
             Err(STRIP_ENDS_NOT_RISING) if i < j => counts.strips.see(Of::PastTheLast),
             Err(11) if self.entries > 0 => counts.strips.see(Of::BetweenShort),
             Err(_) => {}
         }
-        let due = due.map(|price| vec![price]);
-        let (part, refusal) = ("a strip between places", "a refusal between places");
-        same_written(part, refusal, number, &answer, &due).map_err(|mismatch| Mismatch {
+        let names = ["a strip between places", "a refusal between places"];
+        same_answer(names, number, &answer, due).map_err(|mismatch| Mismatch {
             between: Some((i, j)),
             ..mismatch
         })
     }
-}
-
-/// A call for so many strips, with room for them and two more, and with room for one fewer, which is refused before any strip is looked at but after what
-/// is wrong with the curve.
-fn several(
-    strips: usize,
-    due: Result<Vec<f64>, u8>,
-    curve: Option<u8>,
-    [accepted, refused]: [Of; 2],
-    counts: &mut Counts,
-    call: impl Fn(&mut [f64]) -> u8,
-) -> Agreed {
-    let due = curve.map_or(due, Err);
-    if strips > 1 {
-        counts
-            .strips
-            .see(if due.is_ok() { accepted } else { refused });
-    }
-    let mut answers = Vec::new();
-    let mut check = |room: usize, due: &Result<Vec<f64>, u8>| {
-        mark(&mut answers, room);
-        let number = call(&mut answers);
-        counts.number(number);
-        let (part, refusal) = ("one of several strips", "a refusal of several strips");
-        same_written(part, refusal, number, &answers, due)
-    };
-    check(strips + 2, &due)?;
-    if strips > 0 {
-        check(strips - 1, &Err(curve.unwrap_or(11)))?;
-    }
-    Ok(())
 }

@@ -75,6 +75,26 @@ fn simpler_strips(strips: &Strips, found: &Mismatch) -> Vec<Strips> {
     all
 }
 
+/// Fewer queries, where no single one showed it.
+fn fewer_queries(queries: &Queries) -> Vec<Queries> {
+    let mut all = Vec::new();
+    let mut with = |change: &dyn Fn(&mut Queries)| {
+        let mut less = queries.clone();
+        change(&mut less);
+        all.push(less);
+    };
+    if queries.breaks {
+        with(&|less| less.breaks = false);
+    }
+    for stretch in stretches(queries.inside.len()) {
+        with(&|less| less.inside = without(&queries.inside, stretch));
+    }
+    for stretch in stretches(queries.anywhere.len()) {
+        with(&|less| less.anywhere = without(&queries.anywhere, stretch));
+    }
+    all
+}
+
 pub fn simpler_queries(queries: &Queries, found: &Mismatch) -> Vec<Queries> {
     let mut all = Vec::new();
     for strips in simpler_strips(&queries.strips, found) {
@@ -88,6 +108,9 @@ pub fn simpler_queries(queries: &Queries, found: &Mismatch) -> Vec<Queries> {
             strips: queries.strips.clone(),
             ..only(found.query)
         });
+        if found.query.is_none() {
+            all.extend(fewer_queries(queries));
+        }
         return all;
     }
     if found.query.is_none() && queries.inside.len() + queries.anywhere.len() > 0 {

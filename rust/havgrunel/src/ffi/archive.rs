@@ -1,5 +1,14 @@
 //! What the archive holds, declared as c/havgrunel.h does; the single kinds are declared where they are called.
 
+/// What a call for many queries or strips tells: the refusal's number, or 0, and which was refused first, counted from 0, or how many there
+/// are where none is to blame.
+#[derive(Clone, Copy, Debug, PartialEq, Eq)]
+#[repr(C)]
+pub struct Many {
+    pub refusal: u8,
+    pub query: usize,
+}
+
 // SAFETY: the declarations are those of c/havgrunel.h. The functions marked safe take numbers alone.
 unsafe extern "C" {
     pub safe fn havgrunel_sqrt(a: f64) -> f64;
@@ -227,7 +236,7 @@ unsafe extern "C" {
         xs_count: usize,
         answers: *mut f64,
         answers_count: usize,
-    ) -> u8;
+    ) -> Many;
 
     pub fn havgrunel_primitives(
         knots: *const f64,
@@ -244,7 +253,7 @@ unsafe extern "C" {
         xs_count: usize,
         answers: *mut f64,
         answers_count: usize,
-    ) -> u8;
+    ) -> Many;
 
     pub fn havgrunel_strip(
         knots: *const f64,
@@ -280,7 +289,7 @@ unsafe extern "C" {
         ends_count: usize,
         answers: *mut f64,
         answers_count: usize,
-    ) -> u8;
+    ) -> Many;
 
     pub fn havgrunel_strip_run(
         knots: *const f64,
@@ -297,7 +306,7 @@ unsafe extern "C" {
         edges_count: usize,
         answers: *mut f64,
         answers_count: usize,
-    ) -> u8;
+    ) -> Many;
 
     pub fn havgrunel_strip_between(
         knots: *const f64,
@@ -306,6 +315,14 @@ unsafe extern "C" {
         column_count: usize,
         i: usize,
         j: usize,
+        answer: *mut f64,
+        answer_count: usize,
+    ) -> u8;
+
+    pub fn havgrunel_column_entry(
+        column: *const f64,
+        column_count: usize,
+        i: usize,
         answer: *mut f64,
         answer_count: usize,
     ) -> u8;
@@ -326,5 +343,7 @@ unsafe extern "C" {
         x: f64,
         answer: *mut f64,
         answer_count: usize,
+        finite: *mut bool,
+        finite_count: usize,
     ) -> u8;
 }
