@@ -10,6 +10,9 @@
  * nothing, has no state and calls no function from outside the archive, neither of the C library nor of another, so calls from several threads don't meet
  * unless they share a buffer.
  *
+ * A price, a total and a strip's average that are answered are finite: one that would not be is refused by 21. What a build writes is what the formulas
+ * gave, infinite or a NaN as it may be, and so is what one section answers by itself, with a mark beside it.
+ *
  * A NaN is a NaN here, whatever its sign and payload: any may come back. All other numbers are the same on every machine, bit for bit.
  *
  * What each function answers, entry by entry, is a proved equation in the five crates whose names begin with export_. Two things are taken on trust: the
@@ -46,9 +49,20 @@ enum havgrunel_refusal {
     HAVGRUNEL_RECORD_NOT_LEGAL = 15,      /* a record's tag is not legal, or the record is not there */
     HAVGRUNEL_NO_GIVEN_NODE = 16,         /* a sheet needs a given node at one end at least, and this one has none */
     HAVGRUNEL_STRIP_ENDS_NOT_RISING = 18, /* the strip's first end is not below its second, or a place is past the last knot */
+    HAVGRUNEL_NOT_FINITE = 21,            /* the answer is infinite or not a number */
     HAVGRUNEL_CUTS_NOT_INNER = 28,        /* a cut is not an inner knot of the table, or not above the cut before it */
     HAVGRUNEL_AVERAGE_BELOW_ZERO = 29,    /* an average is below 0, and no curve at or above 0 can keep it, as the safe split promises */
     HAVGRUNEL_SPLIT_UNKNOWN = 30          /* the split's number is none of 0, 1 and 2 */
+};
+
+/*
+ * What a call that answers many queries or strips at once comes back with: the refusal, or 0, and the number of the query or strip that was refused first,
+ * counted from 0. Where none of them is to blame, since all are answered or the curve or a buffer is refused, `query` is how many there are: the count of
+ * xs, of starts, or of edges less one, and 0 for no edges.
+ */
+struct havgrunel_many {
+    uint8_t refusal;
+    size_t query;
 };
 
 /* A curve of n points takes n nodes, n - 1 tags and HAVGRUNEL_SLOTS slots for each tag. */
@@ -60,7 +74,7 @@ enum havgrunel_refusal {
  * Behind them stand three numbers of its period: the price that the section's own formula gives at the left knot, where the period starts; the price that
  * it gives at the right knot, where the period ends; and the running total after the period, from which the next section starts: the sum from the left, of
  * each average times the length of its period. Every section of a curve has them, the only one of two points and a held last one too. They are what the
- * formulas give, which may be infinite or a NaN. No call that reads a curve looks at them, but for havgrunel_record.
+ * formulas give, which may be infinite or a NaN, and no mark stands beside them. No call that reads a curve looks at them, but for havgrunel_record.
  *
  * So the price left of an inner knot is the right price of the section that ends there, and the price right of it the left price of the next section.
  */
@@ -160,8 +174,9 @@ uint8_t havgrunel_grow(
     double *tail, size_t tail_count);
 
 /*
- * The same two calls for a curve that keeps a column: the total up to each knot, as havgrunel_primitive answers it there, into column[0] and on. The
- * tail answers it at the last knot. havgrunel_strip_between reads the column. Sheets write none.
+ * The same two calls for a curve that keeps a column: the total up to each knot, as havgrunel_primitive works it out there, into column[0] and on. The
+ * tail answers it at the last knot. An entry that is infinite or a NaN is written as it is. havgrunel_strip_between and havgrunel_column_entry read the
+ * column. Sheets write none.
  *
  * Refused in the order of the call without a column; a `column` that is shorter than the knots is an 11 as well.
  */
@@ -248,7 +263,8 @@ uint8_t havgrunel_build_in_sheets(
  * The price at x, or the total of all prices up to x, into answer[0]. Knots, tags, slots and the three numbers of the tail are those of a curve
  * that was built; `extrapolate` allows an x outside the knots.
  *
- * Refused in the order 4, 5, 7, 10, 11 (also for an `answer` with no entry), 12, 13, 15.
+ * Refused in the order 4, 5, 7, 10, 11 (also for an `answer` with no entry), 12, 13, 15; then 21 where the price or the total that is asked for is not
+ * finite. At one x either may be without the other.
  */
 uint8_t havgrunel_value(
     const double *knots, size_t knots_count,
@@ -268,11 +284,12 @@ uint8_t havgrunel_primitive(
 
 /*
  * The price at each of xs, or the total up to each, into the first xs_count entries of `answers`: each is what the call above tells of it. The knots
- * are checked once for all, and xs that rise cost a step each. All or nothing: where any x is refused, nothing is written.
+ * are checked once for all, and xs that rise cost a step each. All or nothing: where any x is refused, nothing is written, and `query` says which was
+ * the first.
  *
- * Refused in the order 4, 5, 7, 10, 11 (also for an `answers` that is shorter than xs); then by 12, 13, 15 of the first x that is refused.
+ * Refused in the order 4, 5, 7, 10, 11 (also for an `answers` that is shorter than xs); then by 12, 13, 15, 21 of the first x that is refused.
  */
-uint8_t havgrunel_values(
+struct havgrunel_many havgrunel_values(
     const double *knots, size_t knots_count,
     const uint16_t *tags, size_t tags_count,
     const double *slots, size_t slots_count,
@@ -281,7 +298,7 @@ uint8_t havgrunel_values(
     const double *xs, size_t xs_count,
     double *answers, size_t answers_count);
 
-uint8_t havgrunel_primitives(
+struct havgrunel_many havgrunel_primitives(
     const double *knots, size_t knots_count,
     const uint16_t *tags, size_t tags_count,
     const double *slots, size_t slots_count,
@@ -294,7 +311,8 @@ uint8_t havgrunel_primitives(
  * The average price of the strip from a to b, into answer[0]: the total up to b less the total up to a, divided by b - a, each step rounded once. The
  * knots are checked once for both ends.
  *
- * Refused in the order 4, 5, 7, 10, 11 (also for an `answer` with no entry), 12, 13, 15 for a; then 12, 13, 15 for b; then 18 unless a is below b.
+ * Refused in the order 4, 5, 7, 10, 11 (also for an `answer` with no entry), 12, 13, 15 for a; then 12, 13, 15 for b; then 18 unless a is below b; then
+ * 21 where the average is not finite, for which the two totals count by what they make of it alone: two finite ones may make an infinite average.
  */
 uint8_t havgrunel_strip(
     const double *knots, size_t knots_count,
@@ -308,12 +326,12 @@ uint8_t havgrunel_strip(
  * The average prices of many strips, into the first entries of `answers`: each is what the call above tells of it. The strips of havgrunel_strips go from
  * each of starts to the number beside it in ends. Those of havgrunel_strip_run adjoin, and go from each of edges to the next: there is one fewer than
  * edges, and none where there is no edge. The knots are checked once for all, an edge that two strips share is asked once, and ends that rise cost a
- * step each. All or nothing: where any strip is refused, nothing is written.
+ * step each. All or nothing: where any strip is refused, nothing is written, and `query` says which was the first. A run's strip k has edges k and k + 1.
  *
  * Refused in the order 1 where there are not as many ends as starts, 4, 5, 7, 10, 11 (also for an `answers` that is shorter than the strips); then by the
- * first strip that is refused: 12, 13, 15 for its start, 12, 13, 15 for its end, 18.
+ * first strip that is refused: 12, 13, 15 for its start, 12, 13, 15 for its end, 18, 21.
  */
-uint8_t havgrunel_strips(
+struct havgrunel_many havgrunel_strips(
     const double *knots, size_t knots_count,
     const uint16_t *tags, size_t tags_count,
     const double *slots, size_t slots_count,
@@ -323,7 +341,7 @@ uint8_t havgrunel_strips(
     const double *ends, size_t ends_count,
     double *answers, size_t answers_count);
 
-uint8_t havgrunel_strip_run(
+struct havgrunel_many havgrunel_strip_run(
     const double *knots, size_t knots_count,
     const uint16_t *tags, size_t tags_count,
     const double *slots, size_t slots_count,
@@ -337,12 +355,23 @@ uint8_t havgrunel_strip_run(
  * rounded once. With the column that was written with the curve, it is what havgrunel_strip tells from the one knot to the other.
  *
  * Refused in the order 4, 5, 7, 10, 11 (for a `column` that is shorter than the knots, or an `answer` with no entry), 18 unless i is below j and j below
- * the count of knots.
+ * the count of knots, 21 where the average is not finite.
  */
 uint8_t havgrunel_strip_between(
     const double *knots, size_t knots_count,
     const double *column, size_t column_count,
     size_t i, size_t j,
+    double *answer, size_t answer_count);
+
+/*
+ * The total up to knot i, counted from 0, into answer[0]: entry i of a column. With the column that was written with the curve, it is what
+ * havgrunel_primitive tells at that knot.
+ *
+ * Refused by 11 for a place past the column's end or an `answer` with no entry, then by 21 for an entry that is not finite.
+ */
+uint8_t havgrunel_column_entry(
+    const double *column, size_t column_count,
+    size_t i,
     double *answer, size_t answer_count);
 
 /* The method has no derivative: 14 comes back, whatever x is. */
@@ -361,15 +390,18 @@ uint8_t havgrunel_record(
 
 /*
  * What the section of one record answers by itself, whatever x is: answer[0] is its value at x, answer[1] its primitive at x, answer[2] the node
- * that it ends on. The slots are the record's own, and only the first HAVGRUNEL_FIELDS are looked at.
+ * that it ends on. All three are what the formulas give; finite[0] says whether the value is finite, and finite[1] whether the primitive is. The slots are
+ * the record's own, and only the first HAVGRUNEL_FIELDS are looked at.
  *
- * Refused by 11 for an `answer` of fewer than 3 entries, then by 15 for a tag that is not legal or fewer than HAVGRUNEL_FIELDS slots.
+ * Refused by 11 for an `answer` of fewer than 3 entries or a `finite` of fewer than 2, then by 15 for a tag that is not legal or fewer than
+ * HAVGRUNEL_FIELDS slots.
  */
 uint8_t havgrunel_section(
     uint16_t tag,
     const double *slots, size_t slots_count,
     double x,
-    double *answer, size_t answer_count);
+    double *answer, size_t answer_count,
+    bool *finite, size_t finite_count);
 
 /*
  * A single section of each kind from its own numbers: its tag into tag[0], its fields into the first HAVGRUNEL_FIELDS entries of `slots`. It belongs to no

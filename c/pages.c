@@ -103,7 +103,7 @@ static uint8_t primitives(void)
 {
     const double queries[2] = {0.0, 1.0};
     double answers[2];
-    return havgrunel_primitives(knots, points, NULL, 0, NULL, 0, 0.0, 0.0, 0.0, true, queries, 2, answers, 2);
+    return havgrunel_primitives(knots, points, NULL, 0, NULL, 0, 0.0, 0.0, 0.0, true, queries, 2, answers, 2).refusal;
 }
 
 static uint8_t strip(void)
@@ -116,7 +116,7 @@ static uint8_t strip_run(void)
 {
     const double edges[3] = {0.0, 1.0, 2.0};
     double answers[2];
-    return havgrunel_strip_run(knots, points, NULL, 0, NULL, 0, 0.0, 0.0, 0.0, true, edges, 3, answers, 2);
+    return havgrunel_strip_run(knots, points, NULL, 0, NULL, 0, 0.0, 0.0, 0.0, true, edges, 3, answers, 2).refusal;
 }
 
 static uint8_t strip_between(void)

@@ -112,12 +112,19 @@ static bool answers(const struct table *t, const struct curve *c, bool extrapola
         && same(p, primitive);
 }
 
-typedef uint8_t queries(const double *, size_t, const uint16_t *, size_t, const double *, size_t, double, double, double, bool, const double *, size_t,
-    double *, size_t);
+typedef struct havgrunel_many queries(const double *, size_t, const uint16_t *, size_t, const double *, size_t, double, double, double, bool,
+    const double *, size_t, double *, size_t);
 
-static uint8_t ask_many(queries *q, const struct table *t, const struct curve *c, bool extrapolate, const double *xs, size_t n, double *to, size_t room)
+static struct havgrunel_many ask_many(queries *q, const struct table *t, const struct curve *c, bool extrapolate, const double *xs, size_t n, double *to,
+    size_t room)
 {
     return q(t->knots, t->knots_count, c->tags, TAGS, c->slots, SLOTS, c->tail[0], c->tail[1], c->tail[2], extrapolate, xs, n, to, room);
+}
+
+/* What a call for many came back with: this refusal, or 0, and the first that it was for, or the count of all where none was. */
+static bool told(struct havgrunel_many many, uint8_t refusal, size_t query)
+{
+    return many.refusal == refusal && many.query == query;
 }
 
 /* Both queries are refused with this number, and write nothing. */
@@ -174,24 +181,24 @@ static void three_points(void)
     /* many at once are told what each is told, in any order; one entry more stays as it was */
     const double xs[] = {1.5, 0.5, 1.0, 0.0, 2.0, 0.25};
     double many[7] = {-1.0, -1.0, -1.0, -1.0, -1.0, -1.0, -1.0};
-    CHECK(ask_many(havgrunel_values, &three, &c, false, xs, 6, many, 7) == 0);
+    CHECK(told(ask_many(havgrunel_values, &three, &c, false, xs, 6, many, 7), 0, 6));
     CHECK(same(many[0], 3.125) && same(many[1], 0.875) && same(many[2], 2.0) && same(many[4], 3.5) && same(many[6], -1.0));
     for (size_t i = 0; i < 6; i++) {
         CHECK(ask(havgrunel_value, &three, &c, false, xs[i], &v) == 0 && same(many[i], v));
     }
-    CHECK(ask_many(havgrunel_primitives, &three, &c, false, xs, 6, many, 6) == 0);
+    CHECK(told(ask_many(havgrunel_primitives, &three, &c, false, xs, 6, many, 6), 0, 6));
     CHECK(same(many[2], 1.0) && same(many[4], 4.0));
     for (size_t i = 0; i < 6; i++) {
         CHECK(ask(havgrunel_primitive, &three, &c, false, xs[i], &v) == 0 && same(many[i], v));
     }
-    CHECK(ask_many(havgrunel_values, &three, &c, false, NULL, 0, NULL, 0) == 0);
+    CHECK(told(ask_many(havgrunel_values, &three, &c, false, NULL, 0, NULL, 0), 0, 0));
 
-    /* the first that is refused refuses all, and nothing is written */
+    /* the first that is refused refuses all, its number is told, and nothing is written */
     const double bad[] = {0.5, 2.5, NAN, 1.0};
     double kept[4] = {-1.0, -1.0, -1.0, -1.0};
-    CHECK(ask_many(havgrunel_values, &three, &c, false, bad, 4, kept, 4) == HAVGRUNEL_QUERY_OUTSIDE);
-    CHECK(ask_many(havgrunel_primitives, &three, &c, true, bad, 4, kept, 4) == HAVGRUNEL_QUERY_NOT_A_NUMBER);
-    CHECK(ask_many(havgrunel_values, &three, &c, true, bad, 4, kept, 3) == HAVGRUNEL_BUFFER_TOO_SHORT);
+    CHECK(told(ask_many(havgrunel_values, &three, &c, false, bad, 4, kept, 4), HAVGRUNEL_QUERY_OUTSIDE, 1));
+    CHECK(told(ask_many(havgrunel_primitives, &three, &c, true, bad, 4, kept, 4), HAVGRUNEL_QUERY_NOT_A_NUMBER, 2));
+    CHECK(told(ask_many(havgrunel_values, &three, &c, true, bad, 4, kept, 3), HAVGRUNEL_BUFFER_TOO_SHORT, 4));
     CHECK(same(kept[0], -1.0) && same(kept[1], -1.0) && same(kept[2], -1.0) && same(kept[3], -1.0));
 
     CHECK(havgrunel_derivative(1.0) == HAVGRUNEL_DERIVATIVE_ASKED);
@@ -301,18 +308,26 @@ static void refused_queries(void)
     CHECK(ask(havgrunel_value, &three, &c, false, 1.5, &v) == 0 && same(v, 3.125));
 }
 
-/* What one record answers by itself. */
+/* What one record answers by itself into three numbers. Both of its marks are what their numbers say, and nothing is written behind them. */
+static uint8_t section(uint16_t tag, const double *slots, double x, double *a)
+{
+    bool finite[4] = {true, true, true, false};
+    const uint8_t refusal = havgrunel_section(tag, slots, FIELDS, x, a, 3, finite, 2);
+    CHECK(refusal != 0 || (finite[0] == (isfinite(a[0]) != 0) && finite[1] == (isfinite(a[1]) != 0)));
+    CHECK(finite[2] && !finite[3]);
+    return refusal;
+}
+
 static bool section_is(uint16_t tag, const double *slots, double x, double value, double primitive, double f_next)
 {
     double a[4] = {-1.0, -1.0, -1.0, -1.0};
-    return havgrunel_section(tag, slots, FIELDS, x, a, 3) == 0 && same(a[0], value) && same(a[1], primitive) && same(a[2], f_next)
-        && same(a[3], -1.0);
+    return section(tag, slots, x, a) == 0 && same(a[0], value) && same(a[1], primitive) && same(a[2], f_next) && same(a[3], -1.0);
 }
 
 static double value_of(uint16_t tag, const double *slots, double x)
 {
     double a[3] = {-1.0, -1.0, -1.0};
-    CHECK(havgrunel_section(tag, slots, FIELDS, x, a, 3) == 0);
+    CHECK(section(tag, slots, x, a) == 0);
     return a[0];
 }
 
@@ -340,11 +355,15 @@ static void records(void)
     CHECK(memcmp(into, c.slots + HAVGRUNEL_SLOTS, HAVGRUNEL_SLOTS * sizeof *into) == 0);
 
     double a[3] = {-1.0, -1.0, -1.0};
-    CHECK(havgrunel_section(0x0000, c.slots, FIELDS, 0.5, a, 3) == HAVGRUNEL_RECORD_NOT_LEGAL);
-    CHECK(havgrunel_section(0x2000, c.slots, FIELDS - 1, 0.5, a, 3) == HAVGRUNEL_RECORD_NOT_LEGAL);
-    CHECK(havgrunel_section(0x0000, c.slots, FIELDS, 0.5, a, 0) == HAVGRUNEL_BUFFER_TOO_SHORT);
-    CHECK(havgrunel_section(0x2000, c.slots, FIELDS, 0.5, a, 2) == HAVGRUNEL_BUFFER_TOO_SHORT);
-    CHECK(same(a[0], -1.0) && same(a[1], -1.0) && same(a[2], -1.0));
+    bool finite[2] = {false, false};
+    CHECK(havgrunel_section(0x0000, c.slots, FIELDS, 0.5, a, 3, finite, 2) == HAVGRUNEL_RECORD_NOT_LEGAL);
+    CHECK(havgrunel_section(0x2000, c.slots, FIELDS - 1, 0.5, a, 3, finite, 2) == HAVGRUNEL_RECORD_NOT_LEGAL);
+    CHECK(havgrunel_section(0x0000, c.slots, FIELDS, 0.5, a, 0, finite, 2) == HAVGRUNEL_BUFFER_TOO_SHORT);
+    CHECK(havgrunel_section(0x2000, c.slots, FIELDS, 0.5, a, 2, finite, 2) == HAVGRUNEL_BUFFER_TOO_SHORT);
+    CHECK(havgrunel_section(0x2000, c.slots, FIELDS, 0.5, a, 3, finite, 1) == HAVGRUNEL_BUFFER_TOO_SHORT);
+    CHECK(havgrunel_section(0x0000, c.slots, FIELDS - 1, 0.5, a, 3, NULL, 0) == HAVGRUNEL_BUFFER_TOO_SHORT);
+    CHECK(same(a[0], -1.0) && same(a[1], -1.0) && same(a[2], -1.0) && !finite[0] && !finite[1]);
+    CHECK(havgrunel_section(0x2000, c.slots, FIELDS, 0.5, a, 3, finite, 2) == 0 && finite[0] && finite[1]);
 }
 
 /* What the record of a section says behind its fields: these prices at its two knots, which are its own, and this total after its period. */
@@ -413,8 +432,8 @@ static void a_slot_short_of_each(void)
     CHECK(havgrunel_value(three_knots, 3, c.tags, 2, c.slots, few, 0.0, 0.0, 0.0, false, 0.5, &v, 1) == HAVGRUNEL_BUFFER_TOO_SHORT);
     CHECK(havgrunel_primitive(three_knots, 3, c.tags, 2, c.slots, few, 0.0, 0.0, 0.0, false, 0.5, &v, 1) == HAVGRUNEL_BUFFER_TOO_SHORT);
     const double x = 0.5;
-    CHECK(havgrunel_values(three_knots, 3, c.tags, 2, c.slots, few, 0.0, 0.0, 0.0, false, &x, 1, &v, 1) == HAVGRUNEL_BUFFER_TOO_SHORT);
-    CHECK(havgrunel_primitives(three_knots, 3, c.tags, 2, c.slots, few, 0.0, 0.0, 0.0, false, &x, 1, &v, 1) == HAVGRUNEL_BUFFER_TOO_SHORT);
+    CHECK(told(havgrunel_values(three_knots, 3, c.tags, 2, c.slots, few, 0.0, 0.0, 0.0, false, &x, 1, &v, 1), HAVGRUNEL_BUFFER_TOO_SHORT, 1));
+    CHECK(told(havgrunel_primitives(three_knots, 3, c.tags, 2, c.slots, few, 0.0, 0.0, 0.0, false, &x, 1, &v, 1), HAVGRUNEL_BUFFER_TOO_SHORT, 1));
     CHECK(same(v, -1.0));
     double into[HAVGRUNEL_SLOTS];
     double old[HAVGRUNEL_SLOTS];
@@ -580,7 +599,7 @@ static void growth(void)
     t.knots_count = t.averages_count = 4;
     CHECK(grow(&t, 2, 5, true, first.sections[0], true, &first, &second) == 0 && rest_untouched(&second, 4));
     double end[3];
-    CHECK(havgrunel_section(first.tags[0], first.slots, FIELDS, 0.0, end, 3) == 0);
+    CHECK(section(first.tags[0], first.slots, 0.0, end) == 0);
     fill(&whole);
     CHECK(build_in(&t, true, true, 1, end[2], NODES, TAGS, SLOTS, 2, 4, &whole) == 0);
     CHECK(memcmp(&second, &whole, sizeof whole) == 0);
@@ -592,7 +611,7 @@ static void growth(void)
     /* the last point: nothing is held any more */
     t.knots_count = t.averages_count = 5;
     CHECK(grow(&t, 2, 5, true, second.sections[0], true, &second, &first) == 0);
-    CHECK(havgrunel_section(second.tags[1], second.slots + HAVGRUNEL_SLOTS, FIELDS, 0.0, end, 3) == 0);
+    CHECK(section(second.tags[1], second.slots + HAVGRUNEL_SLOTS, 0.0, end) == 0);
     fill(&whole);
     CHECK(build_in(&t, false, true, 2, end[2], NODES, TAGS, SLOTS, 2, 4, &whole) == 0);
     CHECK(memcmp(&first, &whole, sizeof whole) == 0);
@@ -738,8 +757,8 @@ static double held(const struct curve *c, size_t number)
     const double *const slots = c->slots + HAVGRUNEL_SLOTS * number;
     double a[3] = {-1.0, -1.0, -1.0};
     double b[3] = {-1.0, -1.0, -1.0};
-    CHECK(havgrunel_section(c->tags[number], slots, FIELDS, (double)number, a, 3) == 0);
-    CHECK(havgrunel_section(c->tags[number], slots, FIELDS, (double)number + 1.0, b, 3) == 0);
+    CHECK(section(c->tags[number], slots, (double)number, a) == 0);
+    CHECK(section(c->tags[number], slots, (double)number + 1.0, b) == 0);
     return b[1] - a[1];
 }
 
@@ -802,7 +821,7 @@ static double lowest(const struct table *t, const struct curve *c)
     double found = INFINITY;
     for (double x = t->knots[0]; x <= t->knots[t->knots_count - 1]; x += 1.0) {
         double v = NAN;
-        CHECK(ask(havgrunel_value, t, c, false, x, &v) == 0 && !isnan(v));
+        CHECK(ask(havgrunel_value, t, c, false, x, &v) == 0);
         found = v < found ? v : found;
     }
     return found;
@@ -826,8 +845,8 @@ static void cheap_first_month(void)
     for (size_t i = 0; i < 3; i++) {
         double a[3];
         double b[3];
-        CHECK(havgrunel_section(safe.tags[i], safe.slots + HAVGRUNEL_SLOTS * i, FIELDS, knots[i], a, 3) == 0);
-        CHECK(havgrunel_section(safe.tags[i], safe.slots + HAVGRUNEL_SLOTS * i, FIELDS, knots[i + 1], b, 3) == 0);
+        CHECK(section(safe.tags[i], safe.slots + HAVGRUNEL_SLOTS * i, knots[i], a) == 0);
+        CHECK(section(safe.tags[i], safe.slots + HAVGRUNEL_SLOTS * i, knots[i + 1], b) == 0);
         CHECK(fabs((b[1] - a[1]) / (knots[i + 1] - knots[i]) - averages[i + 1]) < 1e-11 * 59.03);
     }
 
@@ -848,7 +867,7 @@ static void zero_periods(void)
     struct table t = {knots, 6, averages, 6, 0.3, 0.7, true, HAVGRUNEL_SPLIT_ORIGINAL};
     struct curve c;
     double v = -1.0;
-    CHECK(build(&t, false, &c) == 0 && ask(havgrunel_value, &t, &c, false, 2.0, &v) == 0 && isnan(v));
+    CHECK(build(&t, false, &c) == 0 && ask(havgrunel_value, &t, &c, false, 2.0, &v) == HAVGRUNEL_NOT_FINITE && same(v, -1.0));
     t.split = HAVGRUNEL_SPLIT_SAFE;
     for (int k = 0; k < 3; k++) {
         t.quadraticity = k == 0 ? 0.0 : k == 1 ? 0.3 : 1.0;
@@ -969,8 +988,8 @@ static uint8_t strip(const struct table *t, const struct curve *c, bool extrapol
     return havgrunel_strip(t->knots, t->knots_count, c->tags, TAGS, c->slots, SLOTS, c->tail[0], c->tail[1], c->tail[2], extrapolate, a, b, answer, room);
 }
 
-static uint8_t strips(const struct table *t, const struct curve *c, bool extrapolate, const double *starts, size_t starts_count, const double *ends,
-    size_t ends_count, double *to, size_t room)
+static struct havgrunel_many strips(const struct table *t, const struct curve *c, bool extrapolate, const double *starts, size_t starts_count,
+    const double *ends, size_t ends_count, double *to, size_t room)
 {
     return havgrunel_strips(t->knots, t->knots_count, c->tags, TAGS, c->slots, SLOTS, c->tail[0], c->tail[1], c->tail[2], extrapolate, starts,
         starts_count, ends, ends_count, to, room);
@@ -1006,16 +1025,18 @@ static void check_column(const struct table *t, const struct columned *c, const 
     for (size_t i = 0; i < n; i++) {
         double total = -1.0;
         CHECK(ask(havgrunel_primitive, t, without, false, t->knots[i], &total) == 0 && same(c->column[i], total));
+        double entry[2] = {-1.0, -1.0};
+        CHECK(havgrunel_column_entry(c->column, n, i, entry, 2) == 0 && same(entry[0], total) && same(entry[1], -1.0));
         for (size_t j = 0; j <= n; j++) {
             double v[2] = {-1.0, -1.0};
-            const uint8_t told = havgrunel_strip_between(t->knots, n, c->column, n, i, j, v, 2);
+            const uint8_t refusal = havgrunel_strip_between(t->knots, n, c->column, n, i, j, v, 2);
             if (i < j && j < n) {
                 double by_knots = -1.0;
-                CHECK(told == 0 && same(v[1], -1.0));
+                CHECK(refusal == 0 && same(v[1], -1.0));
                 for (int extrapolate = 0; extrapolate < 2; extrapolate++)
                     CHECK(strip(t, without, extrapolate == 1, t->knots[i], t->knots[j], &by_knots, 1) == 0 && same(v[0], by_knots));
             } else {
-                CHECK(told == HAVGRUNEL_STRIP_ENDS_NOT_RISING && same(v[0], -1.0));
+                CHECK(refusal == HAVGRUNEL_STRIP_ENDS_NOT_RISING && same(v[0], -1.0));
             }
         }
     }
@@ -1054,7 +1075,7 @@ static void columns(void)
     t = (struct table){tenths, 4, prices, 4, 0.3, 0.7, false, HAVGRUNEL_SPLIT_ORIGINAL};
     double last[3];
     CHECK(build_column(&t, false, no_seam, &c) == 0 && same(c.column[3], c.curve.tail[1]));
-    CHECK(havgrunel_section(c.curve.tags[2], c.curve.slots + TWO, FIELDS, 0.3, last, 3) == 0 && !same(c.column[3], last[1]));
+    CHECK(section(c.curve.tags[2], c.curve.slots + TWO, 0.3, last) == 0 && !same(c.column[3], last[1]));
     CHECK(build_column(&t, true, no_seam, &c) == 0 && same(c.curve.tail[2], 0.2));
     CHECK(same(c.column[3], c.curve.tail[1] + c.curve.tail[0] * (0.3 - 0.2)));
 
@@ -1161,12 +1182,12 @@ static void refused_strips(void)
         t.knots_count = faults[k].count;
         for (size_t room = 0; room < 2; room++) {
             CHECK(strip(&t, curve, false, NAN, NAN, &v, room) == faults[k].refusal);
-            CHECK(strips(&t, curve, false, level, 1, level + 1, 1, &v, room) == faults[k].refusal);
-            CHECK(strips(&t, curve, false, level, 2, level + 1, 1, &v, room) == HAVGRUNEL_LENGTHS_DIFFER);
-            CHECK(ask_many(havgrunel_strip_run, &t, curve, false, level, 2, &v, room) == faults[k].refusal);
+            CHECK(told(strips(&t, curve, false, level, 1, level + 1, 1, &v, room), faults[k].refusal, 1));
+            CHECK(told(strips(&t, curve, false, level, 2, level + 1, 1, &v, room), HAVGRUNEL_LENGTHS_DIFFER, 2));
+            CHECK(told(ask_many(havgrunel_strip_run, &t, curve, false, level, 2, &v, room), faults[k].refusal, 1));
             CHECK(havgrunel_strip_between(t.knots, t.knots_count, c.column, 0, 9, 9, &v, room) == faults[k].refusal);
         }
-        CHECK(ask_many(havgrunel_strip_run, &t, curve, false, NULL, 0, NULL, 0) == faults[k].refusal);
+        CHECK(told(ask_many(havgrunel_strip_run, &t, curve, false, NULL, 0, NULL, 0), faults[k].refusal, 0));
     }
     free(days);
 
@@ -1179,6 +1200,10 @@ static void refused_strips(void)
     CHECK(havgrunel_strip_between(three_knots, 3, c.column, 3, 1, 1, NULL, 0) == HAVGRUNEL_BUFFER_TOO_SHORT);
     CHECK(havgrunel_strip_between(three_knots, 3, c.column, 3, SIZE_MAX, 0, &v, 1) == HAVGRUNEL_STRIP_ENDS_NOT_RISING);
     CHECK(havgrunel_strip_between(three_knots, 3, c.column, 3, 0, SIZE_MAX, &v, 1) == HAVGRUNEL_STRIP_ENDS_NOT_RISING);
+    CHECK(havgrunel_column_entry(c.column, 3, 3, &v, 1) == HAVGRUNEL_BUFFER_TOO_SHORT);
+    CHECK(havgrunel_column_entry(c.column, 3, SIZE_MAX, &v, 1) == HAVGRUNEL_BUFFER_TOO_SHORT);
+    CHECK(havgrunel_column_entry(NULL, 0, 0, &v, 1) == HAVGRUNEL_BUFFER_TOO_SHORT);
+    CHECK(havgrunel_column_entry(c.column, 3, 2, NULL, 0) == HAVGRUNEL_BUFFER_TOO_SHORT);
     CHECK(same(v, -1.0));
     /* no record is looked at between places: its second is not legal here */
     CHECK(havgrunel_strip_between(three_knots, 3, c.column, 3, 1, 2, &v, 1) == 0 && same(v, 3.0));
@@ -1212,61 +1237,172 @@ static void many_strips(void)
             }
         }
         many[count] = -1.0;
-        CHECK(strips(&three, &c, true, starts, count, ends, count, many, count + 1) == 0 && same(many[count], -1.0));
+        CHECK(told(strips(&three, &c, true, starts, count, ends, count, many, count + 1), 0, count) && same(many[count], -1.0));
         for (size_t k = 0; k < count; k++)
             CHECK(strip(&three, &c, true, starts[k], ends[k], &v, 1) == 0 && same(many[k], v));
         run[EDGES - 1] = -1.0;
-        CHECK(ask_many(havgrunel_strip_run, &three, &c, true, edges, EDGES, run, EDGES) == 0 && same(run[EDGES - 1], -1.0));
+        CHECK(told(ask_many(havgrunel_strip_run, &three, &c, true, edges, EDGES, run, EDGES), 0, EDGES - 1) && same(run[EDGES - 1], -1.0));
         for (size_t k = 0; k + 1 < EDGES; k++)
             CHECK(strip(&three, &c, true, edges[k], edges[k + 1], &v, 1) == 0 && same(run[k], v));
     }
 
     /* no strip */
-    CHECK(strips(&three, &c, false, NULL, 0, NULL, 0, NULL, 0) == 0);
-    CHECK(ask_many(havgrunel_strip_run, &three, &c, false, NULL, 0, NULL, 0) == 0);
+    CHECK(told(strips(&three, &c, false, NULL, 0, NULL, 0, NULL, 0), 0, 0));
+    CHECK(told(ask_many(havgrunel_strip_run, &three, &c, false, NULL, 0, NULL, 0), 0, 0));
     const double nothing = NAN;
-    CHECK(ask_many(havgrunel_strip_run, &three, &c, false, &nothing, 1, NULL, 0) == 0);
+    CHECK(told(ask_many(havgrunel_strip_run, &three, &c, false, &nothing, 1, NULL, 0), 0, 0));
 
     /* the first strip that is refused refuses all: by its start, its end, and then by both */
     const struct {
         double starts[3];
         double ends[3];
         uint8_t refusal;
+        size_t first;
     } bad[] = {
-        {{0.0, 0.5, NAN}, {1.0, 0.5, NAN}, HAVGRUNEL_STRIP_ENDS_NOT_RISING},
-        {{0.0, NAN, 1.0}, {1.0, 9.0, 0.0}, HAVGRUNEL_QUERY_NOT_A_NUMBER},
-        {{0.0, 9.0, 1.0}, {1.0, NAN, 0.0}, HAVGRUNEL_QUERY_OUTSIDE},
-        {{0.0, 1.0, NAN}, {1.0, -1.0, 0.0}, HAVGRUNEL_QUERY_OUTSIDE},
-        {{0.0, 1.0, 0.0}, {1.0, 2.0, NAN}, HAVGRUNEL_QUERY_NOT_A_NUMBER},
+        {{0.0, 0.5, NAN}, {1.0, 0.5, NAN}, HAVGRUNEL_STRIP_ENDS_NOT_RISING, 1},
+        {{0.0, NAN, 1.0}, {1.0, 9.0, 0.0}, HAVGRUNEL_QUERY_NOT_A_NUMBER, 1},
+        {{0.0, 9.0, 1.0}, {1.0, NAN, 0.0}, HAVGRUNEL_QUERY_OUTSIDE, 1},
+        {{0.0, 1.0, NAN}, {1.0, -1.0, 0.0}, HAVGRUNEL_QUERY_OUTSIDE, 1},
+        {{0.0, 1.0, 0.0}, {1.0, 2.0, NAN}, HAVGRUNEL_QUERY_NOT_A_NUMBER, 2},
     };
     double kept[3] = {-1.0, -1.0, -1.0};
     for (size_t k = 0; k < sizeof bad / sizeof *bad; k++) {
-        CHECK(strips(&three, &c, false, bad[k].starts, 3, bad[k].ends, 3, kept, 3) == bad[k].refusal);
-        CHECK(strips(&three, &c, false, bad[k].starts, 3, bad[k].ends, 3, kept, 2) == HAVGRUNEL_BUFFER_TOO_SHORT);
-        CHECK(strips(&three, &c, false, bad[k].starts, 3, bad[k].ends, 2, kept, 0) == HAVGRUNEL_LENGTHS_DIFFER);
+        CHECK(told(strips(&three, &c, false, bad[k].starts, 3, bad[k].ends, 3, kept, 3), bad[k].refusal, bad[k].first));
+        CHECK(told(strips(&three, &c, false, bad[k].starts, 3, bad[k].ends, 3, kept, 2), HAVGRUNEL_BUFFER_TOO_SHORT, 3));
+        CHECK(told(strips(&three, &c, false, bad[k].starts, 3, bad[k].ends, 2, kept, 0), HAVGRUNEL_LENGTHS_DIFFER, 3));
+        CHECK(told(strips(&three, &c, false, bad[k].starts, 2, bad[k].ends, 3, kept, 0), HAVGRUNEL_LENGTHS_DIFFER, 2));
     }
     const struct {
         double edges[4];
         uint8_t refusal;
+        size_t first;
     } turned[] = {
-        {{0.0, 1.0, 0.5, NAN}, HAVGRUNEL_STRIP_ENDS_NOT_RISING},
-        {{0.0, 1.0, 1.0, 9.0}, HAVGRUNEL_STRIP_ENDS_NOT_RISING},
-        {{NAN, 9.0, 1.0, 0.0}, HAVGRUNEL_QUERY_NOT_A_NUMBER},
-        {{9.0, NAN, 1.0, 0.0}, HAVGRUNEL_QUERY_OUTSIDE},
-        {{1.0, NAN, 0.0, 0.0}, HAVGRUNEL_QUERY_NOT_A_NUMBER},
-        {{0.0, 1.0, 2.0, 9.0}, HAVGRUNEL_QUERY_OUTSIDE},
-        {{0.0, 1.0, 2.0, 1.0}, HAVGRUNEL_STRIP_ENDS_NOT_RISING},
+        {{0.0, 1.0, 0.5, NAN}, HAVGRUNEL_STRIP_ENDS_NOT_RISING, 1},
+        {{0.0, 1.0, 1.0, 9.0}, HAVGRUNEL_STRIP_ENDS_NOT_RISING, 1},
+        {{NAN, 9.0, 1.0, 0.0}, HAVGRUNEL_QUERY_NOT_A_NUMBER, 0},
+        {{9.0, NAN, 1.0, 0.0}, HAVGRUNEL_QUERY_OUTSIDE, 0},
+        {{1.0, NAN, 0.0, 0.0}, HAVGRUNEL_QUERY_NOT_A_NUMBER, 0},
+        {{0.0, 1.0, 2.0, 9.0}, HAVGRUNEL_QUERY_OUTSIDE, 2},
+        {{0.0, 1.0, 2.0, 1.0}, HAVGRUNEL_STRIP_ENDS_NOT_RISING, 2},
     };
     for (size_t k = 0; k < sizeof turned / sizeof *turned; k++) {
-        CHECK(ask_many(havgrunel_strip_run, &three, &c, false, turned[k].edges, 4, kept, 3) == turned[k].refusal);
-        CHECK(ask_many(havgrunel_strip_run, &three, &c, false, turned[k].edges, 4, kept, 2) == HAVGRUNEL_BUFFER_TOO_SHORT);
+        CHECK(told(ask_many(havgrunel_strip_run, &three, &c, false, turned[k].edges, 4, kept, 3), turned[k].refusal, turned[k].first));
+        CHECK(told(ask_many(havgrunel_strip_run, &three, &c, false, turned[k].edges, 4, kept, 2), HAVGRUNEL_BUFFER_TOO_SHORT, 3));
     }
     c.tags[0] = 0xffff;
-    CHECK(strips(&three, &c, false, bad[4].starts, 3, bad[4].ends, 3, kept, 3) == HAVGRUNEL_RECORD_NOT_LEGAL);
-    CHECK(strips(&three, &c, false, bad[4].starts + 1, 2, bad[4].ends + 1, 2, kept, 3) == HAVGRUNEL_RECORD_NOT_LEGAL);
-    CHECK(ask_many(havgrunel_strip_run, &three, &c, false, turned[6].edges, 4, kept, 3) == HAVGRUNEL_RECORD_NOT_LEGAL);
+    CHECK(told(strips(&three, &c, false, bad[4].starts, 3, bad[4].ends, 3, kept, 3), HAVGRUNEL_RECORD_NOT_LEGAL, 0));
+    CHECK(told(strips(&three, &c, false, bad[4].starts + 1, 2, bad[4].ends + 1, 2, kept, 3), HAVGRUNEL_RECORD_NOT_LEGAL, 1));
+    CHECK(told(ask_many(havgrunel_strip_run, &three, &c, false, turned[6].edges, 4, kept, 3), HAVGRUNEL_RECORD_NOT_LEGAL, 0));
     CHECK(same(kept[0], -1.0) && same(kept[1], -1.0) && same(kept[2], -1.0));
-    CHECK(ask_many(havgrunel_strip_run, &three, &c, false, turned[6].edges + 1, 2, kept, 1) == 0 && same(kept[0], 3.0));
+    CHECK(told(ask_many(havgrunel_strip_run, &three, &c, false, turned[6].edges + 1, 2, kept, 1), 0, 1) && same(kept[0], 3.0));
+}
+
+/* Three hours, of which the second traded at exactly 0: with positivity there is no price and no total where it starts, and there are all around it. */
+static void no_price_at_a_knot(void)
+{
+    const double knots[] = {0.0, 1.0, 2.0, 3.0};
+    const double averages[] = {0.0, 2.0, 0.0, 2.0};
+    const struct table t = {knots, 4, averages, 4, 0.3, 0.7, true, HAVGRUNEL_SPLIT_ORIGINAL};
+    struct columned c;
+    CHECK(build_column(&t, false, no_seam, &c) == 0);
+    struct curve *const curve = &c.curve;
+    CHECK(refuses(&t, curve, false, 1.0, HAVGRUNEL_NOT_FINITE));
+    CHECK(refuses(&t, curve, true, 1.0, HAVGRUNEL_NOT_FINITE));
+
+    /* the builds' own numbers are what the formulas gave, and the section has a mark to each */
+    CHECK(isnan(c.column[1]) && same(c.column[3], 4.0) && isnan(curve->slots[HAVGRUNEL_SLOTS + HAVGRUNEL_LEFT_PRICE]));
+    CHECK(same(curve->slots[HAVGRUNEL_SLOTS + HAVGRUNEL_TOTAL_AFTER], 2.0));
+    double a[3] = {-1.0, -1.0, -1.0};
+    bool finite[2] = {true, true};
+    CHECK(havgrunel_section(curve->tags[1], curve->slots + HAVGRUNEL_SLOTS, FIELDS, 1.0, a, 3, finite, 2) == 0);
+    CHECK(!finite[0] && !finite[1] && isnan(a[0]) && isnan(a[1]) && same(a[2], curve->nodes[2]));
+
+    /* many: the first that is refused, be it for this or for another reason */
+    const struct {
+        double xs[4];
+        uint8_t refusal;
+        size_t first;
+    } points[] = {
+        {{0.5, 1.5, 1.0, 2.5}, HAVGRUNEL_NOT_FINITE, 2},
+        {{1.0, NAN, 9.0, 1.0}, HAVGRUNEL_NOT_FINITE, 0},
+        {{0.5, NAN, 1.0, 1.0}, HAVGRUNEL_QUERY_NOT_A_NUMBER, 1},
+        {{0.5, 2.5, 9.0, 1.0}, HAVGRUNEL_QUERY_OUTSIDE, 2},
+        {{0.5, 2.5, 3.0, 1.5}, 0, 4},
+    };
+    for (size_t k = 0; k < sizeof points / sizeof *points; k++) {
+        double values[4] = {-1.0, -1.0, -1.0, -1.0};
+        double totals[4] = {-1.0, -1.0, -1.0, -1.0};
+        CHECK(told(ask_many(havgrunel_values, &t, curve, false, points[k].xs, 4, values, 4), points[k].refusal, points[k].first));
+        CHECK(told(ask_many(havgrunel_primitives, &t, curve, false, points[k].xs, 4, totals, 4), points[k].refusal, points[k].first));
+        for (size_t i = 0; i < 4; i++)
+            CHECK(points[k].refusal == 0 ? answers(&t, curve, false, points[k].xs[i], values[i], totals[i]) : same(values[i], -1.0) && same(totals[i], -1.0));
+    }
+    double v = -1.0;
+    CHECK(told(ask_many(havgrunel_values, &t, curve, false, knots, 4, &v, 1), HAVGRUNEL_BUFFER_TOO_SHORT, 4));
+
+    /* strips that start or end there, behind all their other refusals; one that goes over it is answered */
+    CHECK(strip_refused(&t, curve, false, 1.0, 1.5, HAVGRUNEL_NOT_FINITE) && strip_refused(&t, curve, false, 0.5, 1.0, HAVGRUNEL_NOT_FINITE));
+    CHECK(strip_refused(&t, curve, false, 1.0, 1.0, HAVGRUNEL_STRIP_ENDS_NOT_RISING));
+    CHECK(strip_refused(&t, curve, false, 1.0, 0.5, HAVGRUNEL_STRIP_ENDS_NOT_RISING));
+    CHECK(strip_refused(&t, curve, false, 1.0, NAN, HAVGRUNEL_QUERY_NOT_A_NUMBER));
+    CHECK(strip_refused(&t, curve, false, 9.0, 1.0, HAVGRUNEL_QUERY_OUTSIDE));
+    CHECK(strip_by_totals(&t, curve, false, 0.5, 1.5));
+    const double starts[] = {0.0, 0.5, 1.0, 2.0};
+    const double ends[] = {0.5, 1.5, 2.0, 1.0};
+    const double edges[] = {0.0, 0.5, 1.0, 1.5, 1.25};
+    double kept[4] = {-1.0, -1.0, -1.0, -1.0};
+    CHECK(told(strips(&t, curve, false, starts, 4, ends, 4, kept, 4), HAVGRUNEL_NOT_FINITE, 2));
+    CHECK(told(strips(&t, curve, false, starts + 3, 1, ends + 3, 1, kept, 4), HAVGRUNEL_STRIP_ENDS_NOT_RISING, 0));
+    CHECK(told(ask_many(havgrunel_strip_run, &t, curve, false, edges, 5, kept, 4), HAVGRUNEL_NOT_FINITE, 1));
+    CHECK(told(ask_many(havgrunel_strip_run, &t, curve, false, edges + 2, 3, kept, 4), HAVGRUNEL_NOT_FINITE, 0));
+    CHECK(told(ask_many(havgrunel_strip_run, &t, curve, false, edges + 3, 2, kept, 4), HAVGRUNEL_STRIP_ENDS_NOT_RISING, 0));
+    CHECK(havgrunel_strip_between(knots, 4, c.column, 4, 1, 2, kept, 4) == HAVGRUNEL_NOT_FINITE);
+    CHECK(havgrunel_strip_between(knots, 4, c.column, 4, 0, 1, kept, 4) == HAVGRUNEL_NOT_FINITE);
+    CHECK(havgrunel_strip_between(knots, 4, c.column, 4, 1, 1, kept, 4) == HAVGRUNEL_STRIP_ENDS_NOT_RISING);
+    CHECK(havgrunel_column_entry(c.column, 4, 1, kept, 4) == HAVGRUNEL_NOT_FINITE);
+    CHECK(havgrunel_column_entry(c.column, 1, 1, kept, 4) == HAVGRUNEL_BUFFER_TOO_SHORT);
+    CHECK(havgrunel_column_entry(c.column, 4, 1, NULL, 0) == HAVGRUNEL_BUFFER_TOO_SHORT);
+    CHECK(same(kept[0], -1.0) && same(kept[1], -1.0) && same(kept[2], -1.0) && same(kept[3], -1.0));
+    CHECK(told(strips(&t, curve, false, starts, 2, ends, 2, kept, 4), 0, 2) && same(kept[2], -1.0));
+    CHECK(havgrunel_strip_between(knots, 4, c.column, 4, 0, 3, &v, 1) == 0 && same(v, 4.0 / 3.0));
+    CHECK(havgrunel_column_entry(c.column, 4, 3, &v, 1) == 0 && same(v, 4.0));
+
+    /* a record that is not legal is told before that its numbers would not be finite */
+    curve->tags[1] = 0;
+    CHECK(refuses(&t, curve, false, 1.0, HAVGRUNEL_RECORD_NOT_LEGAL) && strip_refused(&t, curve, false, 1.0, 1.5, HAVGRUNEL_RECORD_NOT_LEGAL));
+}
+
+/* Numbers that are not finite one by one: the total without the price, the price and the total of a tail, and a strip of two finite totals. */
+static void one_of_two_not_finite(void)
+{
+    const double knots[] = {0.0, 1.0, 2.0, 3.0};
+    const double averages[] = {0.0, 1.0, -1.0, 1.0};
+    struct table t = {knots, 4, averages, 4, 0.3, 0.7, true, HAVGRUNEL_SPLIT_ORIGINAL};
+    struct curve c;
+    double v = -1.0;
+    bool finite[2] = {false, true};
+    double a[3];
+    CHECK(build(&t, false, &c) == 0);
+    CHECK(ask(havgrunel_primitive, &t, &c, false, 1.5, &v) == HAVGRUNEL_NOT_FINITE && same(v, -1.0));
+    CHECK(ask(havgrunel_value, &t, &c, false, 1.5, &v) == 0 && isfinite(v));
+    CHECK(havgrunel_section(c.tags[1], c.slots + HAVGRUNEL_SLOTS, FIELDS, 1.5, a, 3, finite, 2) == 0 && finite[0] && !finite[1]);
+    CHECK(same(a[0], v) && !isfinite(a[1]));
+
+    /* two points, far out on either side: the totals are finite, and what lies between them is not; the price is 1e308 everywhere */
+    const double high[] = {0.0, 1e308};
+    t = (struct table){knots, 2, high, 2, 0.3, 0.7, false, HAVGRUNEL_SPLIT_ORIGINAL};
+    CHECK(build(&t, false, &c) == 0);
+    CHECK(answers(&t, &c, true, 1.0, 1e308, 1e308) && answers(&t, &c, true, -1.0, 1e308, -1e308));
+    CHECK(strip_refused(&t, &c, true, -1.0, 1.0, HAVGRUNEL_NOT_FINITE));
+    CHECK(strip(&t, &c, true, 0.0, 1.0, &v, 1) == 0 && same(v, 1e308));
+    CHECK(ask(havgrunel_primitive, &t, &c, true, 4.0, &v) == HAVGRUNEL_NOT_FINITE && ask(havgrunel_value, &t, &c, true, 4.0, &v) == 0);
+    CHECK(same(v, 1e308) && strip_refused(&t, &c, true, 4.0, 5.0, HAVGRUNEL_NOT_FINITE));
+    const double lent[] = {-1e308, 1e308, INFINITY, -INFINITY, NAN};
+    CHECK(havgrunel_strip_between(knots, 2, lent, 2, 0, 1, &v, 1) == HAVGRUNEL_NOT_FINITE && same(v, 1e308));
+    for (size_t i = 0; i < 5; i++) {
+        v = -1.0;
+        CHECK(havgrunel_column_entry(lent, 5, i, &v, 1) == (i < 2 ? 0 : HAVGRUNEL_NOT_FINITE) && same(v, i < 2 ? lent[i] : -1.0));
+    }
 }
 
 static void defaults(void)
@@ -1311,6 +1447,8 @@ int main(void)
     columns();
     refused_strips();
     many_strips();
+    no_price_at_a_knot();
+    one_of_two_not_finite();
     if (failures != 0) {
         fprintf(stderr, "c: %d of %d checks don't hold\n", failures, checks);
         return 1;

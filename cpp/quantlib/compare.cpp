@@ -58,23 +58,30 @@ public:
                                    tail_[2], extrapolate, x, &answer, 1);
     }
 
-    std::uint8_t values(const std::vector<double> &xs, std::vector<double> &answers) const
+    // The prices at so many points from xs on, all or none.
+    havgrunel_many values(const double *const xs, const std::size_t count, double *const answers) const
     {
         return havgrunel_values(knots_, points_, tags_.data(), tags_.size(), slots_.data(), slots_.size(), tail_[0], tail_[1],
-                                tail_[2], true, xs.data(), xs.size(), answers.data(), answers.size());
+                                tail_[2], true, xs, count, answers, count);
     }
 
-    std::uint8_t primitives(const std::vector<double> &xs, std::vector<double> &answers) const
+    havgrunel_many primitives(const double *const xs, const std::size_t count, double *const answers) const
     {
         return havgrunel_primitives(knots_, points_, tags_.data(), tags_.size(), slots_.data(), slots_.size(), tail_[0],
-                                    tail_[1], tail_[2], true, xs.data(), xs.size(), answers.data(), answers.size());
+                                    tail_[1], tail_[2], true, xs, count, answers, count);
     }
 
-    // The value and the primitive of one section at x, whatever x is, and the node that the section ends on.
-    std::uint8_t section(const std::size_t number, const double x, std::array<double, 3> &answer) const
+    // What one section answers by itself.
+    struct Answer {
+        std::array<double, 3> numbers{};
+        std::array<bool, 2> finite{};
+    };
+
+    // The value and the primitive of one section at x, whatever x is, each with its mark, and the node that the section ends on.
+    std::uint8_t section(const std::size_t number, const double x, Answer &answer) const
     {
-        return havgrunel_section(tags_[number], slots_.data() + HAVGRUNEL_SLOTS * number, HAVGRUNEL_SLOTS, x, answer.data(),
-                                 answer.size());
+        return havgrunel_section(tags_[number], slots_.data() + HAVGRUNEL_SLOTS * number, HAVGRUNEL_SLOTS, x,
+                                 answer.numbers.data(), answer.numbers.size(), answer.finite.data(), answer.finite.size());
     }
 
     std::size_t sections() const { return sections_; }
@@ -117,7 +124,7 @@ struct Counts {
     std::uint64_t prices = 0;
     std::uint64_t totals = 0;
     std::uint64_t refusals = 0;
-    std::uint64_t nans = 0;
+    std::uint64_t not_finite = 0;
 
     std::uint64_t numbers() const { return section_numbers + prices + totals; }
 };
@@ -146,12 +153,28 @@ public:
 
     std::uint64_t differences() const { return differences_; }
 
+    // A number as it is, whatever it is.
     void number(const char *const what, const double x, const double ours, const double theirs)
     {
-        counts.nans += std::isnan(ours) ? 1 : 0;
+        counts.not_finite += std::isfinite(theirs) ? 0 : 1;
         if (!same(ours, theirs) && starts_difference()) {
             std::printf("  %s at %016" PRIx64 ": library %016" PRIx64 " (%.17g), QuantLib %016" PRIx64 " (%.17g)\n", what, bits_of(x),
                         bits_of(ours), ours, bits_of(theirs), theirs);
+            tell_table();
+        }
+    }
+
+    // A number that a query answers: by its bits where QuantLib's is finite, and else by the library's refusal.
+    void answer(const char *const what, const double x, const std::uint8_t refusal, const double ours, const double theirs)
+    {
+        if (std::isfinite(theirs) && refusal == HAVGRUNEL_ACCEPTED) {
+            return number(what, x, ours, theirs);
+        }
+        counts.not_finite += std::isfinite(theirs) ? 0 : 1;
+        const std::uint8_t due = std::isfinite(theirs) ? HAVGRUNEL_ACCEPTED : HAVGRUNEL_NOT_FINITE;
+        if (refusal != due && starts_difference()) {
+            std::printf("  %s at %016" PRIx64 ": the library's refusal is %d, QuantLib %016" PRIx64 " (%.17g)\n", what, bits_of(x), refusal,
+                        bits_of(theirs), theirs);
             tell_table();
         }
     }
@@ -233,11 +256,15 @@ void compare_sections(Judge &judge, Draw &draw, const Table &table, const Ours &
         const double right = table.knots[number + 1];
         judge.number("section's end", right, right, end);
         for (const double x : {left, right, inside(draw, left, right), draw.finite()}) {
-            std::array<double, 3> answer{};
+            Ours::Answer answer;
             judge.holds("a section's record is accepted", ours.section(number, x, answer) == HAVGRUNEL_ACCEPTED);
-            judge.number("section's price", x, answer[0], section->value(x));
-            judge.number("section's total", x, answer[1], section->primitive(x));
-            judge.number("section's end node", x, answer[2], section->fNext());
+            const double price = section->value(x);
+            const double total = section->primitive(x);
+            judge.number("section's price", x, answer.numbers[0], price);
+            judge.number("section's total", x, answer.numbers[1], total);
+            judge.number("section's end node", x, answer.numbers[2], section->fNext());
+            judge.holds("a section's price is marked as finite where QuantLib's is", answer.finite[0] == std::isfinite(price));
+            judge.holds("a section's total is marked as finite where QuantLib's is", answer.finite[1] == std::isfinite(total));
             judge.counts.section_numbers += 3;
         }
         ++judge.counts.sections;
@@ -245,15 +272,38 @@ void compare_sections(Judge &judge, Draw &draw, const Table &table, const Ours &
     }
 }
 
+// Many queries at once, of which some may be refused: each one's refusal, or 0 and its answer. Those before the first that is refused are asked
+// again without it, and then those behind it.
+template <class Ask>
+std::vector<std::uint8_t> ask_all(Judge &judge, const std::vector<double> &xs, std::vector<double> &answers, const Ask ask)
+{
+    std::vector<std::uint8_t> refusals(xs.size(), HAVGRUNEL_ACCEPTED);
+    std::size_t from = 0;
+    while (from < xs.size()) {
+        const std::size_t count = xs.size() - from;
+        const havgrunel_many told = ask(xs.data() + from, count, answers.data() + from);
+        judge.holds("the query that is refused is one of those asked, and none is where all are answered",
+                    told.refusal == HAVGRUNEL_ACCEPTED ? told.query == count : told.query < count);
+        if (told.query >= count) {
+            return refusals;
+        }
+        const havgrunel_many before = ask(xs.data() + from, told.query, answers.data() + from);
+        judge.holds("those before the first that is refused are answered", before.refusal == HAVGRUNEL_ACCEPTED && before.query == told.query);
+        refusals[from + told.query] = told.refusal;
+        from += told.query + 1;
+    }
+    return refusals;
+}
+
 void compare_many(Judge &judge, const std::vector<double> &xs, const Ours &ours, const QuantLib::Interpolation &theirs)
 {
     std::vector<double> prices(xs.size());
     std::vector<double> totals(xs.size());
-    judge.holds("prices are accepted", ours.values(xs, prices) == HAVGRUNEL_ACCEPTED);
-    judge.holds("totals are accepted", ours.primitives(xs, totals) == HAVGRUNEL_ACCEPTED);
+    const auto price_refusals = ask_all(judge, xs, prices, [&](auto... asked) { return ours.values(asked...); });
+    const auto total_refusals = ask_all(judge, xs, totals, [&](auto... asked) { return ours.primitives(asked...); });
     for (std::size_t i = 0; i < xs.size(); ++i) {
-        judge.number("price", xs[i], prices[i], theirs(xs[i], true));
-        judge.number("total", xs[i], totals[i], theirs.primitive(xs[i], true));
+        judge.answer("price", xs[i], price_refusals[i], prices[i], theirs(xs[i], true));
+        judge.answer("total", xs[i], total_refusals[i], totals[i], theirs.primitive(xs[i], true));
     }
     judge.counts.prices += xs.size();
     judge.counts.totals += xs.size();
@@ -276,15 +326,16 @@ void compare_single(Judge &judge, Draw &draw, const std::vector<double> &xs, con
         }
         double price = 0.0;
         double total = 0.0;
-        const bool refused = !theirs.isInRange(x);
-        judge.refusal("price alone", ours.value(x, false, price), refused);
-        judge.refusal("total alone", ours.primitive(x, false, total), refused);
-        if (refused) {
+        const std::uint8_t of_price = ours.value(x, false, price);
+        const std::uint8_t of_total = ours.primitive(x, false, total);
+        if (!theirs.isInRange(x)) {
+            judge.refusal("price alone", of_price, true);
+            judge.refusal("total alone", of_total, true);
             judge.refusal("price outside", HAVGRUNEL_QUERY_OUTSIDE, throws([&] { theirs(x); }));
             continue;
         }
-        judge.number("price alone", x, price, theirs(x));
-        judge.number("total alone", x, total, theirs.primitive(x));
+        judge.answer("price alone", x, of_price, price, theirs(x));
+        judge.answer("total alone", x, of_total, total, theirs.primitive(x));
         ++judge.counts.prices;
         ++judge.counts.totals;
     }
@@ -348,11 +399,11 @@ public:
 private:
     std::array<double, 3> answers(const double x) const
     {
-        std::array<double, 3> answer{};
+        Ours::Answer answer;
         if (curve_.section(number_, x, answer) != HAVGRUNEL_ACCEPTED) {
             throw std::logic_error("a section's record is refused");
         }
-        return answer;
+        return answer.numbers;
     }
 
     const Ours &curve_;
@@ -446,9 +497,9 @@ int compare(const Options &options)
     const Counts &counts = judge.counts;
     std::printf("quantlib: seed %" PRIu64 ", %" PRIu64 " cases: %" PRIu64 " tables and %" PRIu64 " steps of growth, %" PRIu64
                 " numbers (%" PRIu64 " prices, %" PRIu64 " totals, %" PRIu64 " of %" PRIu64 " sections; %" PRIu64
-                " of them NaN) and %" PRIu64 " refusals; %" PRIu64 " differ\n",
+                " of them not finite) and %" PRIu64 " refusals; %" PRIu64 " differ\n",
                 options.seed, options.only ? 1 : options.cases, counts.tables, counts.growths, counts.numbers(), counts.prices,
-                counts.totals, counts.section_numbers, counts.sections, counts.nans, counts.refusals, judge.differences());
+                counts.totals, counts.section_numbers, counts.sections, counts.not_finite, counts.refusals, judge.differences());
     return judge.differences() == 0 ? 0 : 1;
 }
 
@@ -541,7 +592,7 @@ void measure_prices(const std::size_t points, const bool rising)
         }
     };
     const std::string name = "prices n=" + std::to_string(points) + (rising ? " rising" : " any order");
-    measure("many " + name, static_cast<double>(xs.size()), [&] { ours.values(xs, answers); }, in_quantlib);
+    measure("many " + name, static_cast<double>(xs.size()), [&] { ours.values(xs.data(), xs.size(), answers.data()); }, in_quantlib);
     const auto one_by_one = [&] {
         for (std::size_t i = 0; i < xs.size(); ++i) {
             ours.value(xs[i], true, answers[i]);

@@ -17,6 +17,6 @@ from .curve import Curve, Method, Tail, sqrt
 from .refusals import Refused
 from .section import Section
 
-__version__ = "0.4.0"
+__version__ = "0.5.0"
 
 __all__ = ["FIELDS", "MOST_POINTS", "SLOTS", "Curve", "LibraryMissing", "Method", "Refused", "Section", "Tail", "sqrt"]

@@ -27,6 +27,7 @@ REPOSITORY = os.path.dirname(os.path.dirname(HERE))
 _NUMBERS = [POINTER(c_double), c_size_t]
 _TAGS = [POINTER(c_uint16), c_size_t]
 _COUNTS = [POINTER(c_size_t), c_size_t]
+_MARKS = [POINTER(c_bool), c_size_t]
 _METHOD = [c_double, c_double, c_bool, c_uint8]
 _TABLE = _NUMBERS + _NUMBERS + _METHOD
 _WRITTEN = _NUMBERS + _TAGS + _NUMBERS + _COUNTS + _NUMBERS
@@ -34,8 +35,18 @@ _BUILT = _TABLE + [c_bool, c_bool, c_size_t, c_double] + _WRITTEN
 _GROWN = _TABLE + [c_size_t, c_size_t, c_bool, c_size_t, c_bool] + _TAGS + _NUMBERS + _WRITTEN
 _ASKED = _NUMBERS + _TAGS + _NUMBERS + [c_double, c_double, c_double, c_bool]
 
-# The functions of c/havgrunel.h that this package calls: what each answers, and what it takes. The last one is not called. A library from before there was
-# a safe split does not have it, and is refused by that: its builds take a bool, or nothing, where these take the number of a split.
+
+
+class Told(ctypes.Structure):
+    """What a call for many answers: its refusal or 0, and the first query or strip that is refused, or the count of all where none is to blame."""
+
+    _fields_ = [("refusal", c_uint8), ("query", c_size_t)]
+    refusal: int
+    query: int
+
+
+# The functions of c/havgrunel.h that this package calls: what each answers, and what it takes. A library from before numbers that are not finite were
+# refused has no havgrunel_column_entry, and is refused by that: its calls for many answer a refusal alone.
 DECLARED: Dict[str, Tuple[Any, List[Any]]] = {
     "havgrunel_sqrt": (c_double, [c_double]),
     "havgrunel_default_quadraticity": (c_double, []),
@@ -51,15 +62,15 @@ DECLARED: Dict[str, Tuple[Any, List[Any]]] = {
     "havgrunel_build_in_sheets": (c_uint8, _TABLE + _COUNTS + _WRITTEN),
     "havgrunel_value": (c_uint8, _ASKED + [c_double] + _NUMBERS),
     "havgrunel_primitive": (c_uint8, _ASKED + [c_double] + _NUMBERS),
-    "havgrunel_values": (c_uint8, _ASKED + _NUMBERS + _NUMBERS),
-    "havgrunel_primitives": (c_uint8, _ASKED + _NUMBERS + _NUMBERS),
+    "havgrunel_values": (Told, _ASKED + _NUMBERS + _NUMBERS),
+    "havgrunel_primitives": (Told, _ASKED + _NUMBERS + _NUMBERS),
     "havgrunel_strip": (c_uint8, _ASKED + [c_double, c_double] + _NUMBERS),
-    "havgrunel_strips": (c_uint8, _ASKED + _NUMBERS + _NUMBERS + _NUMBERS),
-    "havgrunel_strip_run": (c_uint8, _ASKED + _NUMBERS + _NUMBERS),
+    "havgrunel_strips": (Told, _ASKED + _NUMBERS + _NUMBERS + _NUMBERS),
+    "havgrunel_strip_run": (Told, _ASKED + _NUMBERS + _NUMBERS),
     "havgrunel_strip_between": (c_uint8, _NUMBERS + _NUMBERS + [c_size_t, c_size_t] + _NUMBERS),
+    "havgrunel_column_entry": (c_uint8, _NUMBERS + [c_size_t] + _NUMBERS),
     "havgrunel_record": (c_uint8, [c_size_t] + _NUMBERS + [c_size_t] + _NUMBERS),
-    "havgrunel_section": (c_uint8, [c_uint16] + _NUMBERS + [c_double] + _NUMBERS),
-    "havgrunel_quadratic_min_safe": (c_uint8, [c_double] * 6 + _TAGS + _NUMBERS),
+    "havgrunel_section": (c_uint8, [c_uint16] + _NUMBERS + [c_double] + _NUMBERS + _MARKS),
 }
 
 

@@ -40,6 +40,10 @@ class Lent:
         """The entries from `low` up to but not including `high`, as a call takes them: a pointer and a count."""
         return self.pointer(low), high - low
 
+    def whole(self) -> Tuple[Any, int]:
+        """All entries, in the same way."""
+        return self.part(0, self.count)
+
     def copy(self) -> "array[float]":
         """The numbers in an array of their own."""
         own = array("d")

@@ -1,6 +1,7 @@
 """An order's answer: its curve, the rows that are asked for, what each period holds, and what a reader should be told.
 
-Every price, every total and the average over every row and strip comes from a proved function.
+Every price, every total and the average over every row and strip comes from a proved function. Where the library refuses one since it is not finite, its
+mark stands in the row, and all others are answered.
 """
 
 import bisect
@@ -10,6 +11,7 @@ from typing import Callable, Dict, List, NamedTuple, Optional, Sequence, Tuple, 
 
 from .curve import Curve, Method
 from .faults import Stop, clipped
+from .finite import NOT_FINITE, Number, all_marked, first_marked, marked
 from .refusals import Refused
 from .section import Section
 from .text import Asked, Knots, Order, Points, Rows, Strips, moment, needs_clock, show
@@ -40,8 +42,8 @@ class AtPoint(NamedTuple):
     """An answer to 'at': the point, its price and the total up to it."""
 
     at: float
-    price: float
-    total: float
+    price: Number
+    total: Number
 
 
 class OverRow(NamedTuple):
@@ -49,9 +51,9 @@ class OverRow(NamedTuple):
 
     start: float
     end: float
-    average: float
-    price: float
-    total: float
+    average: Number
+    price: Number
+    total: Number
 
 
 class OverStrip(NamedTuple):
@@ -60,7 +62,7 @@ class OverStrip(NamedTuple):
 
     start: float
     end: float
-    average: float
+    average: Number
     lowest: Optional[float]
     highest: Optional[float]
 
@@ -70,9 +72,9 @@ class AtKnot(NamedTuple):
     knot has no price from the left, and the last none from the right."""
 
     at: float
-    left: Optional[float]
-    right: Optional[float]
-    total: float
+    left: Optional[Number]
+    right: Optional[Number]
+    total: Number
     jump: bool
 
 
@@ -86,25 +88,26 @@ class Answered:
     asked: Asked
     rows: Sequence[Row]
 
-    def numbers(self) -> List[Tuple[float, ...]]:
-        """The answers of each row, without its points."""
-        return [tuple(x for x in (row[2:] if isinstance(row, (OverRow, OverStrip)) else row[1:]) if x is not None) for row in self.rows]
+    @property
+    def not_finite(self) -> int:
+        """How many rows have an answer that is not finite."""
+        return sum(NOT_FINITE in row for row in self.rows)
 
 
 @dataclass
 class Held:
-    """What a period traded at, and what the curve holds over it. `scale` is the largest of its average and its two nodes, and `blur` what the rounding of
-    the totals at its ends may come to."""
+    """What a period traded at, and what the curve holds over it, if that is finite. `scale` is the largest of its average and its two nodes, and `blur` what
+    the rounding of the totals at its ends may come to."""
 
     period: int
     traded: float
-    held: float
+    held: Number
     scale: float
     blur: float = 0.0
 
     @property
     def kept(self) -> bool:
-        return abs(self.held - self.traded) <= ROUNDING * self.scale + self.blur
+        return isinstance(self.held, float) and abs(self.held - self.traded) <= ROUNDING * self.scale + self.blur
 
 
 @dataclass
@@ -168,17 +171,17 @@ def blamed(order: Order, refused: Refused) -> Optional[Union[int, str]]:
 
 def at_points(order: Order, curve: Curve, asked: Points) -> List[AtPoint]:
     try:
-        return [AtPoint(*row) for row in zip(asked.at, curve.values(asked.at), curve.primitives(asked.at))]
+        return [AtPoint(*row) for row in zip(asked.at, all_marked(curve.values, asked.at), all_marked(curve.primitives, asked.at))]
     except Refused:
         raise Stop(1, *refused_points(order, curve, asked), placed=True) from None
 
 
 def refused_points(order: Order, curve: Curve, asked: Points) -> List[str]:
-    """A line for each point that is refused."""
+    """A line for each point that is refused. One without a finite price is answered, by its mark."""
     lines = []
     for x, shown, line in zip(asked.at, asked.shown, asked.lines):
         try:
-            curve.value(x)
+            marked(curve.value, x)
         except Refused as refused:
             lines.append(f"{order.place(line)}: refused at {clipped(shown)}: {refused.words} (refusal {refused.number})")
     return lines
@@ -186,12 +189,13 @@ def refused_points(order: Order, curve: Curve, asked: Points) -> List[str]:
 
 def over_rows(curve: Curve, asked: Rows) -> List[OverRow]:
     starts, ends = asked.at[:-1], asked.at[1:]
-    return [OverRow(*row) for row in zip(starts, ends, curve.averages(asked.at), curve.values(starts), curve.primitives(ends))]
+    answers = all_marked(curve.strips, starts, ends), all_marked(curve.values, starts), all_marked(curve.primitives, ends)
+    return [OverRow(*row) for row in zip(starts, ends, *answers)]
 
 
 def over_strips(order: Order, curve: Curve, asked: Strips) -> List[OverStrip]:
     try:
-        prices = curve.strips(asked.starts, asked.ends)
+        prices = all_marked(curve.strips, asked.starts, asked.ends)
     except Refused:
         raise Stop(1, *refused_points(order, curve, asked), placed=True) from None
     return [OverStrip(a, b, price, *traded_range(order, a, b)) for a, b, price in zip(asked.starts, asked.ends, prices)]
@@ -204,19 +208,27 @@ def traded_range(order: Order, start: float, end: float) -> Tuple[Optional[float
 
 
 def at_knots(curve: Curve) -> List[AtKnot]:
-    """All knots, by what the records of the sections beside them have. Up to the first the total is 0: nothing lies before it."""
+    """All knots, by the prices of the sections beside them and the totals of their records. Up to the first the total is 0: nothing lies before it."""
     sections, sizes = curve.sections, scales(curve)
+    lefts = [marked(section.value, section.x_prev) for section in sections]
+    rights = [marked(section.value, section.x_next) for section in sections]
+    totals = [running_total(section) for section in sections]
     first, last = sections[0], sections[-1]
     inner = [
-        AtKnot(after.x_prev, before.right_price, after.left_price, before.total, jumps(before.right_price, after.left_price, max(beside)))
-        for before, after, *beside in zip(sections, sections[1:], sizes, sizes[1:])
+        AtKnot(section.x_next, left, right, total, jumps(left, right, max(beside)))
+        for section, left, right, total, *beside in zip(sections, rights, lefts[1:], totals, sizes, sizes[1:])
     ]
-    return [AtKnot(first.x_prev, None, first.left_price, 0.0, False), *inner, AtKnot(last.x_next, last.right_price, None, last.total, False)]
+    return [AtKnot(first.x_prev, None, lefts[0], 0.0, False), *inner, AtKnot(last.x_next, rights[-1], None, totals[-1], False)]
 
 
-def jumps(left: float, right: float, scale: float) -> bool:
+def running_total(section: Section) -> Number:
+    """The total after a section's period, as its record has it. No mark stands beside it there, so it is looked at here."""
+    return section.total if math.isfinite(section.total) else NOT_FINITE
+
+
+def jumps(left: Number, right: Number, scale: float) -> bool:
     """Whether the two prices at a knot differ by more than rounding. One that is not finite differs from any other."""
-    return not abs(left - right) <= JUMP * scale < math.inf
+    return not (isinstance(left, float) and isinstance(right, float) and abs(left - right) <= JUMP * scale < math.inf)
 
 
 def rows_of(order: Order, curve: Curve, asked: Asked) -> Sequence[Row]:
@@ -280,18 +292,22 @@ def curve_by(order: Order, split: str) -> Optional[Curve]:
 def look_inside(section: Section, gap: float, number: int, traded: float, scale: float) -> Held:
     """What a section holds from knot to knot; with a gap, from so far inside on, where the price inside stands for that of the gap."""
     a, b = section.x_prev + gap, section.x_next - gap
-    start, end = section.primitive(a), section.primitive(b)
-    if gap:
-        start, end = start - section.value(a) * (a - section.x_prev), end + section.value(b) * (section.x_next - b)
     length = section.x_next - section.x_prev
-    return Held(number, traded, (end - start) / length, scale, BLUR * (abs(start) + abs(end)) / length)
+    try:
+        start, end = section.primitive(a), section.primitive(b)
+        if gap:
+            start, end = start - section.value(a) * (a - section.x_prev), end + section.value(b) * (section.x_next - b)
+    except Refused:
+        return Held(number, traded, NOT_FINITE, scale)
+    held = (end - start) / length
+    return Held(number, traded, held if math.isfinite(held) else NOT_FINITE, scale, BLUR * (abs(start) + abs(end)) / length)
 
 
 def look_again(section: Section, looked: Held, scale: float) -> Held:
     """At monotonicity 1, or with an average of 0, the bend may lie on the knot but for rounding, and the formula then has no total at the knot itself. A
     billionth of the period inside it has. A loss is seen there as well."""
     inside = look_inside(section, (section.x_next - section.x_prev) * 2.0**-30, looked.period, looked.traded, scale)
-    return inside if inside.kept or not math.isfinite(looked.held) else looked
+    return inside if inside.kept or looked.held is NOT_FINITE else looked
 
 
 def period(order: Order, number: int) -> str:
@@ -364,16 +380,20 @@ def near(order: Order, x: float) -> str:
 def not_finite(found: Answer) -> Tuple[int, List[str]]:
     """How many answers are not finite, printed or looked at, and a line to each period that has one."""
     order, curve = found.order, found.curve
-    printed = sum(not all(map(math.isfinite, numbers)) for table in found.tables for numbers in table.numbers())
-    xs = asked_points(found) + [x for inside in looks(order) for x in inside]
+    printed = sum(table.not_finite for table in found.tables)
+    groups: List[List[float]] = [[] for _ in order.averages[1:]]
+    for x in asked_points(found) + [x for inside in looks(order) for x in inside]:
+        groups[period_at(order, x) - 1].append(x)
     places: Dict[int, str] = {}
-    for x, price, total in zip(xs, curve.values(xs), curve.primitives(xs)):
-        if not (math.isfinite(price) and math.isfinite(total)):
-            places.setdefault(period_at(order, x), f"no finite {'total' if math.isfinite(price) else 'price'} at {near(order, x)}")
+    for k, (xs, price, total) in enumerate(zip(groups, first_marked(curve.values, groups), first_marked(curve.primitives, groups)), 1):
+        if price is not None and (total is None or price <= total):
+            places[k] = f"no finite price at {near(order, xs[price])}"
+        elif total is not None:
+            places[k] = f"no finite total at {near(order, xs[total])}"
     for table in found.tables:
         # The period that ends on a knot has the knot's own number.
         for k, row in enumerate(table.rows):
-            if isinstance(row, AtKnot) and row.left is not None and not math.isfinite(row.left):
+            if isinstance(row, AtKnot) and row.left is NOT_FINITE:
                 places.setdefault(k, f"no finite price just before {show(order, row.at)}")
     lines = [f"{order.place(order.average_lines[k])}: {what}: {period(order, k)} {cause(order, k)}" for k, what in sorted(places.items())]
     lines = told(lines, order, "periods with no finite price")
@@ -408,18 +428,18 @@ def below_prices(found: Answer) -> List[str]:
         return []
     lowest: Dict[int, Tuple[float, str]] = {}
 
-    def look(x: float, value: float, what: Callable[[], str]) -> None:
-        if not value < 0:
+    def look(x: float, value: Number, what: Callable[[], str]) -> None:
+        if not (isinstance(value, float) and value < 0):
             return
         k = period_at(order, x)
         if value < -ROUNDING * found.held[k - 1].scale and value < lowest.get(k, (0.0, ""))[0]:
             lowest[k] = (value, what())
 
     inner = [x for inside in looks(order) for x in inside]
-    for x, price in zip(inner, curve.values(inner)):
+    for x, price in zip(inner, all_marked(curve.values, inner)):
         look(x, price, lambda: f"the price near {near(order, x)}")
     for section in curve.sections:
-        look(section.x_prev, section.right_price, lambda: f"the price just before {show(order, section.x_next)}")
+        look(section.x_prev, marked(section.value, section.x_next), lambda: f"the price just before {show(order, section.x_next)}")
     for table in found.tables:
         for row in table.rows:
             if isinstance(row, (OverRow, OverStrip)):
@@ -442,7 +462,11 @@ def advice(found: Answer, missing: bool, below: bool) -> List[str]:
         return []
     xs = asked_points(found) + [x for inside in looks(found.order) for x in inside]
     lowest = -ROUNDING * max(found.order.averages[1:])
-    if not all(lowest <= price < math.inf and math.isfinite(total) for price, total in zip(curve.values(xs), curve.primitives(xs))):
+    try:
+        prices, _ = curve.values(xs), curve.primitives(xs)
+    except Refused:
+        return []
+    if min(prices) < lowest:
         return []
     ways = ["has a price everywhere"] * missing + ["holds all prices at 0 or above"] * below
     return [f"{found.order.name}: 'split: safe' {' and '.join(ways)}"]

@@ -59,6 +59,11 @@ it; 'strip' the average from START to END beside what was traded there: of
 several periods the lowest and the highest. Under a table stands whether each
 period kept its average.
 
+Some tables leave a point or a row without a finite price, average or total: the
+library refuses it by 21. The others are answered all the same. It is no-number
+in a table, an empty cell in a CSV file and a ring in a picture, and a line on
+standard error tells the period and the cause.
+
 --knots tells of each knot the price that the curve comes to from the left, the
 price that it goes on with to the right, and the running total up to it. It
 needs nothing to be asked. 'yes' in the last column marks a jump: the two prices

@@ -10,6 +10,7 @@ import re
 from typing import Iterable, List, Optional, Sequence, Tuple
 
 from .faults import Bad, clipped, quoted
+from .finite import Number
 from .periods import Item, item, items
 from .quotes import Quotes
 from .text import Order, begin, finish, options_asked
@@ -117,7 +118,7 @@ def parted(text: str) -> Tuple[str, List[str], List[Row]]:
 def chosen(heading: List[str], rows: List[Row]) -> List[Row]:
     """The columns that say something. Of a file that this command wrote they are the start, the end and the average."""
     if [name.lower() for name in heading] in (ROW_NAMES, STRIP_NAMES):
-        return [(line, cells[:3]) for line, cells in rows]
+        return [(line, [*cells, "", ""][:3]) for line, cells in rows]
     width = max(len(cells) for _, cells in rows)
     filled = [k for k in range(width) if any(k < len(cells) and cells[k] for _, cells in rows)]
     return [(line, [cells[k] for k in filled if k < len(cells)]) for line, cells in rows]
@@ -200,7 +201,7 @@ def is_own(start: bytes) -> bool:
     return first in {separator.join(names).encode() for names in (ROW_NAMES, POINT_NAMES, KNOT_NAMES, STRIP_NAMES) for separator in ",\t"}
 
 
-def full(x: Optional[float]) -> str:
-    """Every digit of a number: the shortest text that reads back as the same float; nan, inf and -inf as pandas reads them. An empty cell where there is
-    none."""
-    return "" if x is None else repr(float(x))
+def full(x: Optional[Number]) -> str:
+    """Every digit of a number: the shortest text that reads back as the same float. An empty cell, which a spreadsheet leaves blank and pandas takes for
+    missing, where it is not finite or none is asked for."""
+    return repr(x) if isinstance(x, float) else ""

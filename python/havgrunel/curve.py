@@ -10,7 +10,7 @@ from dataclasses import dataclass, field
 from typing import Any, Callable, Iterable, NamedTuple, Optional, Tuple, Type
 
 from . import _numbers
-from ._library import MOST_POINTS, SLOTS, load
+from ._library import MOST_POINTS, SLOTS, Told, load
 from ._numbers import Kind, Lent, Many
 from .refusals import Refused
 from .section import Section
@@ -103,13 +103,16 @@ def _lent(own: "array[Any]") -> Tuple[Any, int]:
 class Curve:
     """A curve through the averages that periods traded at. It does not change, and may be asked from several threads.
 
+    What it answers is finite: a price, a total or an average that is infinite or no number is refused by 21. Such a curve is built all the same, and what it
+    is made of, its nodes, sections, tail and column, is told as it is.
+
     knots       -- numbers that rise: where the periods meet, in days, hours or whatever is counted
     averages    -- as many: at each knot the average of the period that ends there. The first is not read, but must be finite
     method      -- the settings; Method() where there are none
     hold        -- the last period stays flat at its average
     seam        -- (count, node): the node at that knot is given, for a curve that goes on from another
     extrapolate -- whether points outside the knots are answered
-    column      -- whether the total up to each knot is kept beside the curve, for strip_between
+    column      -- whether the total up to each knot is kept beside the curve, for strip_between and total_at
 
     Raises Refused, with the number and the words of the reason.
     """
@@ -281,7 +284,8 @@ class Curve:
 
     @property
     def column(self) -> "Optional[array[float]]":
-        """A copy of the column, which has the total up to each knot: what `primitive` answers there. None for a curve without one."""
+        """A copy of the column, which has the total up to each knot: what `primitive` answers there, and where it is refused by 21 the infinity or NaN
+        that it was refused for. None for a curve without one."""
         return None if self._column is None else self._column[:]
 
     @property
@@ -297,41 +301,51 @@ class Curve:
     # ---- What is asked of it ----
 
     def value(self, x: float) -> float:
-        """The price at x."""
+        """The price at x. Refused by 21 where it is not finite."""
         return self._told(load().havgrunel_value, _numbers.one(x, "x"))
 
     def primitive(self, x: float) -> float:
-        """The total of all prices from the first knot up to x."""
+        """The total of all prices from the first knot up to x. Refused by 21 where it is not finite, whether the price there is or not."""
         return self._told(load().havgrunel_primitive, _numbers.one(x, "x"))
 
     def strip(self, a: float, b: float) -> float:
         """The average price from a to b: (total at b - total at a) / (b - a), where each of the three steps is rounded once.
 
-        Refused for a's own reasons first, then for b's, then by 18 unless a is below b.
+        Refused for a's own reasons first, then for b's, then by 18 unless a is below b, then by 21 where the average is not finite: two finite totals may
+        make an infinite average.
         """
         return self._told(load().havgrunel_strip, _numbers.one(a, "a"), _numbers.one(b, "b"))
 
     def strip_between(self, i: int, j: int) -> float:
         """The average price from knot i to knot j, both counted from 0: strip(knots[i], knots[j]), bit for bit, by two entries of the column.
 
-        Refused by 11 on a curve without a column, and by 18 unless i is below j and j is the number of a knot.
+        Refused by 11 on a curve without a column, by 18 unless i is below j and j is the number of a knot, and by 21 where the average is not finite.
         """
-        column = (None, 0) if self._column is None else _lent(self._column)
         places = _numbers.count(i, "the first place"), _numbers.count(j, "the second place")
-        return _single(load().havgrunel_strip_between, *_lent(self._knots), *column, *places)
+        return _single(load().havgrunel_strip_between, *_lent(self._knots), *self._column_lent(), *places)
+
+    def total_at(self, i: int) -> float:
+        """The total up to knot i, counted from 0: primitive(knots[i]), bit for bit, by an entry of the column.
+
+        Refused by 11 on a curve without a column or where i is not the number of a knot, and by 21 where the total is not finite.
+        """
+        return _single(load().havgrunel_column_entry, *self._column_lent(), _numbers.count(i, "the place"))
+
+    def _column_lent(self) -> Tuple[Any, int]:
+        return (None, 0) if self._column is None else _lent(self._column)
 
     def values(self, xs: Many) -> Any:
         """The price at each of xs, as the kind of sequence that xs is: a list, an array, a numpy array or a pandas Series with the index of xs.
 
-        All or nothing: where one is refused, Refused says which was the first.
+        All or nothing: where one is refused, Refused says which was the first. A price that is not finite is refused by 21.
         """
         lent = _numbers.many(xs, "xs")
-        return self._told_all(load().havgrunel_values, lent.like, lent.count, lent.part)
+        return self._told_all(load().havgrunel_values, lent.like, lent.count, *lent.whole())
 
     def primitives(self, xs: Many) -> Any:
         """The total of all prices from the first knot up to each of xs, as `values` has it."""
         lent = _numbers.many(xs, "xs")
-        return self._told_all(load().havgrunel_primitives, lent.like, lent.count, lent.part)
+        return self._told_all(load().havgrunel_primitives, lent.like, lent.count, *lent.whole())
 
     def strips(self, starts: Many, ends: Many) -> Any:
         """The average price from each of starts to the entry beside it in ends, each what `strip` answers, as the kind of sequence that starts is.
@@ -341,52 +355,42 @@ class Curve:
         first, second = _numbers.many(starts, "starts"), _numbers.many(ends, "ends")
         if first.count != second.count:
             raise Refused(1)
-        return self._told_all(load().havgrunel_strips, first.like, first.count, lambda low, high: (*first.part(low, high), *second.part(low, high)))
+        return self._told_all(load().havgrunel_strips, first.like, first.count, *first.whole(), *second.whole())
 
     def averages(self, edges: Many) -> Any:
         """The average price from each edge to the next, each what `strip` answers: one answer less than there are edges, which must rise.
 
         It comes as the kind of sequence that the edges are; a pandas Series has the index of the left edges. All or nothing: where one is refused,
-        Refused says which edge is to blame.
+        Refused says which edge is to blame. Of an average that is not finite, refused by 21, it is the edge whose total is not, and the right one where
+        both totals are finite and only their difference is not.
         """
         lent = _numbers.many(edges, "edges")
         if lent.count == 0:
             raise ValueError("there are no edges, and averages lie between them")
         try:
-            return self._told_all(load().havgrunel_strip_run, lent.like, lent.count - 1, lambda low, high: lent.part(low, high + 1))
+            return self._told_all(load().havgrunel_strip_run, lent.like, lent.count - 1, *lent.whole())
         except Refused as refused:
-            raise Refused(refused.number, self._edge_to_blame(lent, refused.index)) from None
+            raise Refused(refused.number, self._edge_to_blame(lent, refused)) from None
 
     def _told(self, function: Callable[..., int], *points: float) -> float:
         return _single(function, *self._asked, *points)
 
-    def _told_all(self, function: Callable[..., int], like: Kind, count: int, lend: Callable[[int, int], Tuple[Any, ...]]) -> Any:
-        """So many answers of one call. `lend` gives what it takes for the answers from one number up to another."""
+    def _told_all(self, function: Callable[..., Told], like: Kind, count: int, *lent: Any) -> Any:
+        """So many answers of one call. Where it is refused, it says itself for which, and tells the count of all where none is to blame."""
         answers = like.room(count)
-        number = function(*self._asked, *lend(0, count), _numbers.pointer(answers, 0, count), count)
-        if number:
-            raise Refused(number, self._first_refused(function, count, lend))
+        told = function(*self._asked, *lent, _numbers.pointer(answers, 0, count), count)
+        if told.refusal:
+            raise Refused(told.refusal, told.query if told.query < count else None)
         return like.given(answers)
 
-    def _first_refused(self, function: Callable[..., int], count: int, lend: Callable[[int, int], Tuple[Any, ...]]) -> Optional[int]:
-        """Which answer is the first that is refused. Half of those that are left are asked at a time."""
-        low, high = 0, count
-        spare = _numbers.zeros(count)
-        into = _numbers.pointer(spare, 0, count)
-        while high - low > 1:
-            middle = (low + high) // 2
-            if function(*self._asked, *lend(low, middle), into, count):
-                high = middle
-            else:
-                low = middle
-        return low if high else None
-
-    def _edge_to_blame(self, edges: Lent, strip: Optional[int]) -> Optional[int]:
-        """The edge for which a strip of a run is refused: the right one, unless the left one is the first edge of all and cannot be asked itself."""
+    def _edge_to_blame(self, edges: Lent, refused: Refused) -> Optional[int]:
+        """The edge for which a strip of a run is refused: the right one, unless the left one is the first edge of all and is refused so by itself. The left
+        edge of any other strip is the right one of a strip that was answered, so its total is there, and finite."""
+        strip = refused.index
         if strip is None:
             return None
         answer = ctypes.c_double()
-        first = strip == 0 and load().havgrunel_primitives(*self._asked, *edges.part(0, 1), ctypes.byref(answer), 1)
+        first = strip == 0 and load().havgrunel_primitives(*self._asked, *edges.part(0, 1), ctypes.byref(answer), 1).refusal == refused.number
         return 0 if first else strip + 1
 
     # ---- As an object ----

@@ -10,10 +10,11 @@ import os
 import zlib
 from array import array
 from dataclasses import dataclass
-from typing import Dict, List, NamedTuple, Optional, Sequence, Tuple
+from typing import Dict, Iterable, List, NamedTuple, Optional, Sequence, Tuple
 from xml.sax.saxutils import escape
 
 from .curve import Curve
+from .finite import NOT_FINITE, Number, all_marked
 from .lettering import width, wrap
 from .text import METHOD, Order, Points, Rows, Strips, in_words, plain, show
 from .ticks import Mark, fitting_numbers, moments, numbers
@@ -77,7 +78,7 @@ LEAST_ROW = 1.5
 class Drawn:
     """A curve as stretches of (point, price), each drawn as one line, and whether a point was asked for that lies too far out to be drawn."""
 
-    stretches: List[List[Tuple[float, float]]]
+    stretches: List[List[Tuple[float, Number]]]
     cut: bool
 
 
@@ -108,7 +109,7 @@ def sampled(order: Order, curve: Curve) -> Drawn:
         counts.append(len(stretch))
     xs.append(edges[-1])
     counts[-1] += 1
-    pairs = iter(zip(xs, curve.values(xs)))
+    pairs = iter(zip(xs, all_marked(curve.values, xs)))
     return Drawn([[next(pairs) for _ in range(count)] for count in counts], cut)
 
 
@@ -117,7 +118,7 @@ class Level(NamedTuple):
 
     start: float
     end: float
-    price: float
+    price: Number
 
 
 @dataclass
@@ -126,7 +127,7 @@ class Bars:
 
     name: str
     edges: List[float]
-    averages: List[float]
+    averages: List[Number]
 
 
 def bars(orders: Sequence[Order], curves: Sequence[Curve], reach: float) -> Optional[Bars]:
@@ -138,14 +139,21 @@ def bars(orders: Sequence[Order], curves: Sequence[Curve], reach: float) -> Opti
         if isinstance(rows, Rows) and len(rows.at) > 1 and rows.step / reach * (WIDE - LEFT - RIGHT) >= LEAST_ROW:
             unit = order.unit or str(order.settings["time"])
             name = {"daily": "day average", "hourly": "hour average"}.get(rows.word, f"average, {rows.word} {unit}".strip())
-            return Bars(name, rows.at, list(curves[0].averages(array("d", rows.at))))
+            return Bars(name, rows.at, all_marked(curves[0].strips, rows.at[:-1], rows.at[1:]))
     return None
 
 
 def levels(orders: Sequence[Order], curves: Sequence[Curve]) -> List[Level]:
     """The strips of a picture of one curve."""
     asked = next((one for one in orders[0].asked if isinstance(one, Strips)), None) if len(orders) == 1 else None
-    return [] if asked is None else [Level(*strip) for strip in zip(asked.starts, asked.ends, curves[0].strips(asked.starts, asked.ends))]
+    if asked is None:
+        return []
+    return [Level(*strip) for strip in zip(asked.starts, asked.ends, all_marked(curves[0].strips, asked.starts, asked.ends))]
+
+
+def finite(answers: Iterable[Number]) -> List[float]:
+    """Those that can be drawn."""
+    return [one for one in answers if isinstance(one, float)]
 
 
 # ---- The scales ----
@@ -190,12 +198,12 @@ def heights(shown: Content) -> Scale:
     beyond: List[float] = []
     for curve in shown.drawn:
         for x, price in (pair for stretch in curve.stretches for pair in stretch):
-            if math.isfinite(price):
+            if isinstance(price, float):
                 (within if first <= x <= last else beyond).append(price)
     if shown.rows:
-        within += filter(math.isfinite, shown.rows.averages)
+        within += finite(shown.rows.averages)
     for a, b, price in shown.strips:
-        if math.isfinite(price):
+        if isinstance(price, float):
             (within if first <= a and b <= last else beyond).append(price)
     low, high = min(within), max(within)
     reach = high - low or abs(high) or 1.0
@@ -312,12 +320,12 @@ def description(shown: Content) -> str:
     periods = f"{len(averages)} periods" if len(averages) > 1 else "1 period"
     told = [f"{periods} from {show(order, order.knots[0])} to {show(order, order.knots[-1])}, traded from {short(min(averages))} to {short(max(averages))}{unit}."]
     for curve, name in zip(shown.drawn, names(shown.orders)):
-        prices = [price for stretch in curve.stretches for _, price in stretch if math.isfinite(price)]
+        prices = finite(price for stretch in curve.stretches for _, price in stretch)
         if prices:
             told.append(f"Line, {name}: from {short(min(prices))} to {short(max(prices))}.")
     if shown.rows:
         told.append(f"Bars: {shown.rows.name}.")
-    prices = [strip.price for strip in shown.strips if math.isfinite(strip.price)]
+    prices = finite(strip.price for strip in shown.strips)
     if prices:
         told.append(f"Level lines, strip price: from {short(min(prices))} to {short(max(prices))}.")
     return " ".join(told)
@@ -362,7 +370,7 @@ LEVEL = f'{painted("curve3")} stroke-width="5"'
 
 def strip_lines(strips: Sequence[Level], frame: Frame) -> List[str]:
     """A level line over the days of each strip whose price is a number."""
-    path = "".join(level(frame, *strip) for strip in strips if math.isfinite(strip.price))
+    path = "".join(level(frame, a, b, price) for a, b, price in strips if isinstance(price, float))
     return [f'<path d="{path}" {LEVEL}/>'] if path else []
 
 
@@ -376,7 +384,7 @@ def row_blocks(rows: Bars, frame: Frame, floor: float) -> List[str]:
     """A bar to each row whose average is a number, with a gap beside it by which the eye tells two of them apart, and a line on it."""
     blocks, tops = [], []
     for a, b, average in zip(rows.edges, rows.edges[1:], rows.averages):
-        if math.isfinite(average):
+        if isinstance(average, float):
             blocks.append(block(frame, a, b, average, floor, min(1.0, 0.3 * (frame.across(b) - frame.across(a)))))
             tops.append(level(frame, a, b, average))
     return [f'<path d="{"".join(blocks)}" {painted("row")}/>', f'<path d="{"".join(tops)}" {painted("top")}/>']
@@ -387,7 +395,7 @@ def curve_path(curve: Drawn, frame: Frame, k: int) -> str:
     path: List[str] = []
     before: Optional[Tuple[float, float]] = None
     for stretch in curve.stretches:
-        places = [(frame.across(x), frame.down(price)) if math.isfinite(price) else None for x, price in stretch]
+        places = [(frame.across(x), frame.down(price)) if isinstance(price, float) else None for x, price in stretch]
         for n, place in enumerate(thinned(places)):
             if place is None:
                 before = None
@@ -402,19 +410,19 @@ def curve_path(curve: Drawn, frame: Frame, k: int) -> str:
 
 def thinned(places: List[Optional[Tuple[float, float]]]) -> List[Optional[Tuple[float, float]]]:
     """A stretch without what nobody sees: one that is narrower than half a dot keeps its first, lowest, highest and last place."""
-    finite = [place for place in places if place is not None]
-    if len(finite) < len(places) or finite[-1][0] - finite[0][0] >= 0.5:
+    found = [place for place in places if place is not None]
+    if len(found) < len(places) or found[-1][0] - found[0][0] >= 0.5:
         return places
-    rising = sorted(range(len(finite)), key=lambda k: finite[k][1])
-    return [finite[k] for k in sorted({0, rising[0], rising[-1], len(finite) - 1})]
+    rising = sorted(range(len(found)), key=lambda k: found[k][1])
+    return [found[k] for k in sorted({0, rising[0], rising[-1], len(found) - 1})]
 
 
 def faults(shown: Content) -> List[float]:
     """The points with no finite price, or the starts of rows and strips with no finite average."""
-    found = {x for curve in shown.drawn for stretch in curve.stretches for x, price in stretch if not math.isfinite(price)}
+    found = {x for curve in shown.drawn for stretch in curve.stretches for x, price in stretch if price is NOT_FINITE}
     if shown.rows:
-        found |= {a for a, average in zip(shown.rows.edges, shown.rows.averages) if not math.isfinite(average)}
-    found |= {strip.start for strip in shown.strips if not math.isfinite(strip.price)}
+        found |= {a for a, average in zip(shown.rows.edges, shown.rows.averages) if average is NOT_FINITE}
+    found |= {strip.start for strip in shown.strips if strip.price is NOT_FINITE}
     return sorted(found)
 
 
@@ -479,7 +487,7 @@ def entries(shown: Content, low: float, high: float) -> List[Tuple[str, str]]:
     prices = [price for curve in shown.drawn for stretch in curve.stretches for _, price in stretch]
     rows = shown.rows.averages if shown.rows else []
     strips = [strip.price for strip in shown.strips]
-    if any(math.isfinite(price) and not low <= price <= high for price in [*shown.first.averages[1:], *prices, *rows, *strips]):
+    if not all(low <= price <= high for price in [*shown.first.averages[1:], *finite([*prices, *rows, *strips])]):
         found.append(("", "cut off at the edge"))
     return found
 

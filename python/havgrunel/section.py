@@ -4,7 +4,7 @@ import ctypes
 import math
 from array import array
 from dataclasses import dataclass
-from typing import Tuple
+from typing import Any, Tuple
 
 from . import _numbers
 from ._library import FIELDS, load
@@ -17,24 +17,26 @@ _SPLITS = 1 << 12 | 1 << 7
 
 _Fields = ctypes.c_double * FIELDS
 _Answer = ctypes.c_double * 3
+_Marks = ctypes.c_bool * 2
 
 
 @dataclass(frozen=True, eq=False)
 class Section:
     """The curve over one period, from the knot x_prev to the knot x_next.
 
-    It answers by its own formula wherever it is asked, at its right knot too, where the curve itself answers by the next section.
+    It answers by its own formula wherever it is asked, at its right knot too, where the curve itself answers by the next section. Where the formula gives
+    an infinity or no number, `value` and `primitive` raise Refused(21). What stands in its record is told as it is.
 
     tag         -- 16 bits that say which kinds it is made of
     slots       -- the 27 numbers of its record: the 24 of its formula, of which those that its kinds don't use are 0, and the three that follow
-    left_price  -- the price at its left knot, by its own formula: value(x_prev), bit for bit
-    right_price -- the price at its right knot, by its own formula: value(x_next), bit for bit. Where it is not the left price of the next section the
-                   curve jumps
+    left_price  -- the price at its left knot, by its own formula: value(x_prev), bit for bit, where that is finite
+    right_price -- the price at its right knot, by its own formula: value(x_next), likewise. Where it is not the left price of the next section the curve
+                   jumps
     total       -- the running total after its period: what was traded from the curve's first knot up to x_next. It is where the next section starts,
                    whatever primitive(x_next) says of a period that lost its average
 
-    A price is infinite or no number where the formula gives that. Two sections are equal where they are the same, bit for bit,
-    any NaN for any NaN.
+    The last three are infinite or no number where the formula or the sum gives that. Two sections are equal where they are the same, bit for bit, any NaN
+    for any NaN.
     """
 
     tag: int
@@ -74,24 +76,33 @@ class Section:
         return self.slots[FIELDS + 2]
 
     def value(self, x: float) -> float:
-        """The price at x by this section's formula, wherever x is."""
-        return self._answer(x)[0]
+        """The price at x by this section's formula, wherever x is. Refused by 21 where that is not finite."""
+        return self._marked(x, 0)
 
     def primitive(self, x: float) -> float:
-        """The total from the curve's first knot up to x by this section's formula, wherever x is."""
-        return self._answer(x)[1]
+        """The total from the curve's first knot up to x by this section's formula, wherever x is. Refused by 21 where that is not finite."""
+        return self._marked(x, 1)
 
     @property
     def f_next(self) -> float:
-        """The node that it ends on."""
-        return self._answer(self.x_next)[2]
+        """The node that it ends on, whatever it is."""
+        answer, _ = self._answer(self.x_next)
+        return float(answer[2])
 
-    def _answer(self, x: float) -> Tuple[float, float, float]:
-        answer = _Answer()
-        number = load().havgrunel_section(self.tag, _Fields(*self.slots[:FIELDS]), FIELDS, _numbers.one(x, "x"), answer, 3)
+    def _marked(self, x: float, which: int) -> float:
+        """The value or the primitive at x, if its mark says that it is finite."""
+        answer, finite = self._answer(x)
+        if not finite[which]:
+            raise Refused(21)
+        return float(answer[which])
+
+    def _answer(self, x: float) -> Tuple[Any, Any]:
+        """The value, the primitive and the node, and a mark to each of the first two."""
+        answer, finite = _Answer(), _Marks()
+        number = load().havgrunel_section(self.tag, _Fields(*self.slots[:FIELDS]), FIELDS, _numbers.one(x, "x"), answer, 3, finite, 2)
         if number:
             raise Refused(number)
-        return answer[0], answer[1], answer[2]
+        return answer, finite
 
     # By their bits, since a price may be no number, which equals nothing. Any such price is as good as another.
 

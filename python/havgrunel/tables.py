@@ -1,24 +1,22 @@
 """Answers as a printed table, with the check of each period under it, and as the rows of a CSV file."""
 
-import math
 from typing import List, Optional, Sequence, Tuple
 
 from .answers import Answer, Answered, AtKnot, AtPoint, OverRow, OverStrip, period, short
 from .csvfile import KNOT_NAMES, POINT_NAMES, ROW_NAMES, STRIP_NAMES, full, written
+from .finite import Number
 from .text import METHOD, SETTINGS, Knots, Order, Points, Rows, Strips, default_name, in_words, needs_clock, plain, show
 
 # What the first column of rows is called.
 ROW_HEADS = {"daily": "day", "hourly": "hour"}
 
 
-def shown(x: Optional[float], exact: bool) -> str:
-    """A number of the table, and a dash where there is none."""
+def shown(x: Optional[Number], exact: bool) -> str:
+    """A number of the table, a word where it is not finite, and a dash where none is asked for."""
     if x is None:
         return "-"
-    if math.isnan(x):
+    if not isinstance(x, float):
         return "no-number"
-    if math.isinf(x):
-        return "infinite" if x > 0 else "-infinite"
     if exact:
         return plain(x)
     if abs(x) >= 1e12:
@@ -136,10 +134,12 @@ def check(answer: Answer) -> List[str]:
     order = answer.order
     for one in lost:
         # As many digits as it takes to see the difference.
-        form = short if short(one.traded) != short(one.held) else plain
-        held = f"holds {form(one.held)}" if math.isfinite(one.held) else "has no finite total"
+        form, held = short, "has no finite total"
+        if isinstance(one.held, float):
+            form = short if short(one.traded) != short(one.held) else plain
+            held = f"holds {form(one.held)}"
         lines.append(f"  {period(order, one.period)} traded at {form(one.traded)} and {held} (line {order.average_lines[one.period]})")
-    if any(math.isfinite(one.held) for one in lost):
+    if any(isinstance(one.held, float) for one in lost):
         way = f"'{answer.keeping}' avoids this" if answer.keeping else "docs/SHAPES.md says how to avoid this"
         lines.append(f"  The rows around its ends carry the difference; {way}.")
     return lines

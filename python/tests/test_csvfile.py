@@ -130,7 +130,7 @@ class Out(InAFolder):
     def test_points(self):
         self.assertEqual(run("--tsv", self.path("out.tsv"), example("zero-hour.txt")).status, 4)
         rows = self.rows("out.tsv")
-        self.assertEqual((rows[0], rows[4]), (["point", "price", "total"], ["1", "nan", "nan"]))
+        self.assertEqual((rows[0], rows[4]), (["point", "price", "total"], ["1", "", ""]))
 
     def test_hours_of_dates_have_their_time_in_every_row(self):
         run("--csv", self.path("out.csv"), "--ask", "hourly", self.written("days.csv", "2026-10-01,2026-10-03,3\n2026-10-03,2026-10-04,4\n"))

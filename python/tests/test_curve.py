@@ -11,6 +11,7 @@ from concurrent.futures import ThreadPoolExecutor
 
 import havgrunel
 from havgrunel import FIELDS, MOST_POINTS, SLOTS, Curve, Method, Refused
+from havgrunel.finite import NOT_FINITE, marked
 
 THREE = ([0.0, 1.0, 2.0], [0.0, 1.0, 3.0], Method(0.0, 1.0, False))
 # The second month has the nodes 4 and 1 and traded at 3.
@@ -234,7 +235,8 @@ class Sections(unittest.TestCase):
         for tag, due in names.items():
             section = havgrunel.Section(tag, (0.0,) * SLOTS, 0.0, 1.0)
             self.assertEqual((section.kind, section.split), due)
-            section.value(0.5)
+            # Refused by 21 where zeros alone are divided by each other, and by nothing else.
+            marked(section.value, 0.5)
 
     def test_a_tag_that_is_none(self):
         with self.assertRaises(Refused) as caught:
@@ -267,13 +269,18 @@ class KnotPrices(unittest.TestCase):
     """What a record has besides its section's fields: the prices at its two knots and the total after it."""
 
     def hold(self, curve):
-        """They are what the section answers, the totals are the table's own, and a tail after a shaped period has the last price and total."""
+        """They are what the section answers, and not finite where it refuses to; the totals are the table's own, and a tail after a shaped period has the
+        last price and total."""
         total = 0.0
         for section, average in zip(curve.sections, curve.traded[1:]):
             total += average * (section.x_next - section.x_prev)
             told = section.left_price, section.right_price, section.total
             self.assertEqual((len(section.slots), bits(section.slots[FIELDS:])), (SLOTS, bits(told)))
-            self.same(told, (section.value(section.x_prev), section.value(section.x_next), total))
+            for price, x in zip(told, (section.x_prev, section.x_next)):
+                answered = marked(section.value, x)
+                self.assertEqual(math.isfinite(price), answered is not NOT_FINITE)
+                self.same((price,), (price if answered is NOT_FINITE else answered,))
+            self.same((section.total,), (total,))
         if not curve.hold and len(curve.sections) > 1:
             self.same(curve.tail[:2], (curve.sections[-1].right_price, total))
 

@@ -11,6 +11,7 @@ import unittest.mock
 
 from havgrunel import Curve, Method
 from havgrunel.answers import JUMP, at_knots, holdings, jumps, scales
+from havgrunel.finite import NOT_FINITE
 from havgrunel.text import Order
 from runs import EXAMPLES, HOME, InAFolder, example, run, run_gas, table_rows
 
@@ -46,6 +47,9 @@ class Rows(unittest.TestCase):
             (math.inf, 1.0, 1.0, True),
             (-math.inf, -math.inf, 1.0, True),
             (1.0, 2.0, math.inf, True),
+            (1.0, NOT_FINITE, 1.0, True),
+            (NOT_FINITE, 1.0, 1.0, True),
+            (NOT_FINITE, NOT_FINITE, 1.0, True),
             (1e308, -1e308, 1e308, True),
         ):
             with self.subTest(left=left, right=right, scale=scale):
@@ -173,7 +177,7 @@ class Tables(InAFolder):
 
 class Files(InAFolder):
     def test_csv_and_tsv(self):
-        rows = [["knot", "price_from_left", "price_from_right", "total", "jump"], ["0", "", "2.5", "0.0", "0"], ["1", "1.0", "nan", "2.0", "1"], ["2", "nan", "1.0", "2.0", "1"], ["3", "2.5", "", "4.0", "0"]]
+        rows = [["knot", "price_from_left", "price_from_right", "total", "jump"], ["0", "", "2.5", "0.0", "0"], ["1", "1.0", "", "2.0", "1"], ["2", "", "1.0", "2.0", "1"], ["3", "2.5", "", "4.0", "0"]]
         for option, sign in ("--csv", ","), ("--tsv", "\t"):
             ran = run("--knots", option, "-", example("zero-hour.txt"))
             self.assertEqual((ran.status, ran.out), (4, "".join(sign.join(row) + "\n" for row in rows)))
@@ -277,11 +281,13 @@ class Drawn(unittest.TestCase):
         rows, sizes = at_knots(curve), scales(curve)
         marked, least, most = 0, math.inf, 0.0
         for k, row in enumerate(rows[1:-1], 1):
-            part = abs(row.left - row.right) / (max(sizes[k - 1 : k + 1]) or 1.0)
+            part = math.inf
+            if NOT_FINITE not in row:
+                part = abs(row.left - row.right) / (max(sizes[k - 1 : k + 1]) or 1.0)
             if not row.jump:
                 most = max(most, part)
                 continue
-            marked, least = marked + 1, min(least, part if math.isfinite(part) else math.inf)
+            marked, least = marked + 1, min(least, part)
             free = method.positivity and 0.0 in table[1][k : k + 2]
             if not free and not (hold and k == len(rows) - 2):
                 held = holdings(Order("drawn", {}, knots=table[0], averages=table[1]), curve)

@@ -38,6 +38,8 @@ def python(code, *, library=None, cwd=None, path=PACKAGES):
 
 def typed(declaration):
     """The ctypes type of a C declaration such as `const double *knots` or `size_t`."""
+    if declaration == "struct havgrunel_many":
+        return _library.Told
     words = declaration.replace("const ", "").replace("*", " * ").split()
     plain = TYPES[words[0]]
     return ctypes.POINTER(plain) if "*" in words else plain
@@ -47,7 +49,7 @@ def header():
     """The functions of the header: what each answers, and what it takes."""
     text = re.sub(r"/\*.*?\*/", "", read("c", "havgrunel.h"), flags=re.DOTALL)
     found = {}
-    for answers, name, takes in re.findall(r"^(\w+) (havgrunel_\w+)\(([^)]*)\);", text, re.MULTILINE):
+    for answers, name, takes in re.findall(r"^((?:struct )?\w+) (havgrunel_\w+)\(([^)]*)\);", text, re.MULTILINE):
         parts = [part.strip() for part in takes.split(",")]
         found[name] = (typed(answers), [] if parts == ["void"] else [typed(part) for part in parts])
     return found
@@ -56,9 +58,14 @@ def header():
 class Declarations(unittest.TestCase):
     def test_they_are_the_header_s(self):
         functions = header()
-        self.assertEqual(len(functions), 36)
+        self.assertEqual(len(functions), 37)
         for name, declared in _library.DECLARED.items():
             self.assertEqual(declared, functions[name], name)
+
+    def test_what_many_answer_is_the_header_s(self):
+        """The fields of the struct, in their order."""
+        fields = re.search(r"struct havgrunel_many \{\n(.*?)\};", read("c", "havgrunel.h"), re.DOTALL)[1]
+        self.assertEqual([(name, typed(kind)) for kind, name in re.findall(r"(\w+) (\w+);", fields)], _library.Told._fields_)
 
     def test_the_library_has_every_function_of_the_header(self):
         library = _library.load()
@@ -94,8 +101,8 @@ class Declarations(unittest.TestCase):
 
 class Finding(unittest.TestCase):
     def test_a_library_that_lacks_a_function(self):
-        """One from before the safe split lacks its function. Its builds take another argument in the split's place, and must not be called."""
-        self.assertIn("havgrunel_quadratic_min_safe", _library.DECLARED)
+        """One from before refusal 21 lacks a function that came with it. Its calls for many answer another thing, and must not be called."""
+        self.assertIn("havgrunel_column_entry", _library.DECLARED)
         with unittest.mock.patch.dict(_library.DECLARED, {"havgrunel_of_later": (ctypes.c_bool, [])}):
             with self.assertRaisesRegex(havgrunel.LibraryMissing, "is not the library of this package: it has no function havgrunel_of_later"):
                 _library._opened(_library.load()._name)

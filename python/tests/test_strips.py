@@ -13,6 +13,7 @@ from havgrunel import MOST_POINTS, SLOTS, Curve, Method, Refused
 from havgrunel._library import load
 from havgrunel.answers import curve_of
 from havgrunel.curve import SPLITS
+from havgrunel.finite import NOT_FINITE, all_marked
 from havgrunel.text import read_order
 from runs import HOME, example
 from test_curve import FALLING, FREE, GROWING, THREE, Refusing, bits, drawn
@@ -24,6 +25,11 @@ NAN = math.nan
 def by_two_totals(curve, a, b):
     """The formula: two totals, and three steps that are rounded once each."""
     return (curve.primitive(b) - curve.primitive(a)) / (b - a)
+
+
+def both(told):
+    """What a call for many answers: the refusal, and the first that is refused."""
+    return told.refusal, told.query
 
 
 def grown(knots, averages, window, method, **more):
@@ -101,12 +107,17 @@ class Strips(Refusing):
             curve.strip(None, 1)
 
     def test_a_strip_without_a_number(self):
-        """The total up to the hour that traded at 0 is no number there, so no strip from or to that knot is one."""
+        """The total up to the hour that traded at 0 is no number there, so no strip from or to that knot is one. The column has it as it is."""
         curve = Curve(*FREE, Method.gas(), column=True)
-        self.assertTrue(math.isnan(curve.primitive(1)))
-        for told in (curve.strip(0, 1), curve.strip(1, 2), curve.strip_between(0, 1), *curve.averages([0, 1, 2]), curve.column[1]):
-            self.assertTrue(math.isnan(told))
-        self.assertEqual((curve.strip(0, 2), curve.strip_between(0, 2)), (1.0, 1.0))
+        self.refused(21, None, curve.primitive, 1)
+        for ends in (0, 1), (1, 2):
+            self.refused(21, None, curve.strip, *ends)
+            self.refused(21, None, curve.strip_between, *ends)
+            self.refused(21, 0, curve.averages, [1, 2])
+        self.refused(21, 1, curve.averages, [0, 1, 2])
+        self.refused(21, 1, curve.strips, [0, 0, 1], [2, 1, 2])
+        self.assertTrue(math.isnan(curve.column[1]))
+        self.assertEqual((curve.strip(0, 2), curve.strip_between(0, 2), curve.strips([0, 0.5], [2, 1.5])[0]), (1.0, 1.0, 1.0))
 
 
 class Refusals(Refusing):
@@ -175,6 +186,7 @@ class Columns(Refusing):
             wide = curve.with_extrapolation(not curve.extrapolate)
             for one in curve, wide:
                 self.assertEqual(bits(one.column), bits(one.primitives(one.knots)))
+                self.assertEqual(bits(one.column), bits(one.total_at(i) for i in range(len(one.knots))))
 
     def test_by_places_it_is_the_strip_between_the_knots(self):
         seen = set()
@@ -270,8 +282,8 @@ class ThePage(unittest.TestCase):
             for kind in self.kinds:
                 for (knots, averages), _ in self.tables("strips", kind, 2500 * part):
                     curve = Curve(knots, averages, method)
-                    for k, (strip, traded) in enumerate(zip(curve.averages(knots), averages[1:])):
-                        if not math.isfinite(strip):
+                    for k, (strip, traded) in enumerate(zip(all_marked(curve.strips, knots[:-1], knots[1:]), averages[1:])):
+                        if strip is NOT_FINITE:
                             self.assertTrue(0.0 in averages[k + 1 : k + 3], (knots, averages))
                             missing.add((kind, method.split))
                             continue
@@ -325,8 +337,8 @@ class ThePage(unittest.TestCase):
                 for (knots, averages), source in self.tables("adjoining", kind, 2500 * part):
                     curve = Curve(knots, averages, method)
                     a, m, b = sorted(source.sample(range(int(knots[-1]) + 1), 3))
-                    first, second, whole = curve.strips([a, m, a], [m, b, b])
-                    if all(map(math.isfinite, (first, second, whole))):
+                    first, second, whole = all_marked(curve.strips, [a, m, a], [m, b, b])
+                    if NOT_FINITE not in (first, second, whole):
                         again = (first * (m - a) + second * (b - m)) / (b - a)
                         same, pairs, most = same + (again == whole), pairs + 1, max(most, abs(again - whole) / max(averages))
             if part == 1.0:
@@ -425,8 +437,8 @@ class TheCallsThemselves(unittest.TestCase):
                 asked = (*doubles(*xs), lent, len(lent), slots, lent_slots, *curve.tail, False)
                 answers = (ctypes.c_double * 2)(self.MARK, self.MARK)
                 self.assertEqual(load().havgrunel_strip(*asked, NAN, 9.0, answers, 2), number)
-                self.assertEqual(load().havgrunel_strips(*asked, *doubles(NAN, 0), *doubles(9, 1), answers, 2), number)
-                self.assertEqual(load().havgrunel_strip_run(*asked, *doubles(NAN, 9, 1), answers, 2), number)
+                self.assertEqual(both(load().havgrunel_strips(*asked, *doubles(NAN, 0), *doubles(9, 1), answers, 2)), (number, 2 if number < 12 else 0))
+                self.assertEqual(both(load().havgrunel_strip_run(*asked, *doubles(NAN, 9, 1), answers, 2)), (number, 2 if number < 12 else 0))
                 self.assertEqual(answers[:], [self.MARK] * 2)
         asked = (*doubles(0, 1, 2), illegal, 2, slots, len(slots), *curve.tail, False)
         for a, b, number in (0, 0.5, 0), (0.5, 1.5, 15), (1.5, NAN, 15), (1.5, 0, 15), (0, 2, 0), (0.5, 0, 18):
@@ -439,13 +451,13 @@ class TheCallsThemselves(unittest.TestCase):
         curve = Curve(*THREE)
         answers = (ctypes.c_double * 3)(*[self.MARK] * 3)
         self.assertEqual(load().havgrunel_strip(*curve._asked, 1.0, 0.0, answers, 0), 11)
-        self.assertEqual(load().havgrunel_strips(*curve._asked, *doubles(1, 0), *doubles(0, 1), answers, 1), 11)
-        self.assertEqual(load().havgrunel_strip_run(*curve._asked, *doubles(1, 0, 2), answers, 1), 11)
-        self.assertEqual(load().havgrunel_strips(*curve._asked, *doubles(1, 0), *doubles(1), answers, 0), 1)
-        self.assertEqual(load().havgrunel_strips(*curve._asked, *doubles(0, 1), *doubles(1, 0), answers, 3), 18)
-        self.assertEqual(load().havgrunel_strip_run(*curve._asked, *doubles(0, 1, 0), answers, 3), 18)
+        self.assertEqual(both(load().havgrunel_strips(*curve._asked, *doubles(1, 0), *doubles(0, 1), answers, 1)), (11, 2))
+        self.assertEqual(both(load().havgrunel_strip_run(*curve._asked, *doubles(1, 0, 2), answers, 1)), (11, 2))
+        self.assertEqual(both(load().havgrunel_strips(*curve._asked, *doubles(1, 0), *doubles(1), answers, 0)), (1, 2))
+        self.assertEqual(both(load().havgrunel_strips(*curve._asked, *doubles(0, 1), *doubles(1, 0), answers, 3)), (18, 1))
+        self.assertEqual(both(load().havgrunel_strip_run(*curve._asked, *doubles(0, 1, 0), answers, 3)), (18, 1))
         self.assertEqual(answers[:], [self.MARK] * 3)
-        self.assertEqual(load().havgrunel_strip_run(*curve._asked, *doubles(0, 1, 2), answers, 3), 0)
+        self.assertEqual(both(load().havgrunel_strip_run(*curve._asked, *doubles(0, 1, 2), answers, 3)), (0, 2))
         self.assertEqual(answers[:], [1.0, 3.0, self.MARK])
 
     def test_refusals_by_places(self):
