@@ -1,6 +1,7 @@
 // The number that a query asks, with its mark: of a record, worked out from its slots, and of the curve's tail. No section is put together for a record.
 use crate::answer::QueryAnswer;
 use curve::curve::Curve;
+use numbers::Marked;
 use numbers::SLOTS;
 use record::number::Answer;
 use record::number::primitive_in;
@@ -48,12 +49,15 @@ pub(crate) fn record_number(wanted: Wanted, tags: &[u16], slots: &[f64], i: usiz
     }
 }
 
-// What a query is answered that nothing refuses but its record.
+// What a query is answered that nothing refuses but its record. The two fields are handed on one by one: a struct as a whole is copied in bytes.
 pub(crate) fn asked_of(answer: Answer) -> QueryAnswer
     ensures { λ r. ⌜ r ≡ askedOf answer ⌝ }
 {
     match answer {
-        Answer::Number(marked) => QueryAnswer::Number(marked),
+        Answer::Number(marked) => QueryAnswer::Number(Marked {
+            number: marked.number,
+            finite: marked.finite,
+        }),
         Answer::Illegal => QueryAnswer::Refused(Refusal::RecordNotLegal),
     }
 }

@@ -13,6 +13,8 @@ ghost use mathlib.Core.Path.{_≡_};
 ghost use lib.ListN.{length};
 ghost use Rattle.refusal.specs.Refusal.{first};
 ghost use Rattle.refusal.specs.declared.Verdict.the-variants.{Accepted};
+ghost use Rattle.numbers.specs.Marks.{mark};
+ghost use Rattle.query.specs.declared.answer.QueryAnswer.the-variants as query-answer;
 ghost use Rattle.query.specs.Query.{curveTests};
 ghost use Rattle.query.specs.Strip.{stripOf, totalTo, stripAt};
 
@@ -27,6 +29,16 @@ fn total_to(xs: &[f64], curve: Curve, tags: &[u16], slots: &[f64], q: f64) -> Qu
     }
 }
 
+// The strip by two totals that are numbers, finite or not: its own number is marked.
+fn between(a: f64, b: f64, p: f64, q: f64) -> QueryAnswer
+    ensures { λ r. ⌜ r ≡ stripOf a b (query-answer.Number (mark p)) (query-answer.Number (mark q)) ⌝ }
+{
+    if a < b {
+        return QueryAnswer::Number(mark((q - p) / (b - a)));
+    }
+    QueryAnswer::Refused(Refusal::StripEndsNotRising)
+}
+
 // The strip by the totals up to its two ends. What they are marked does not matter: its own number does.
 pub(crate) fn strip_of(a: f64, b: f64, from: QueryAnswer, to: QueryAnswer) -> QueryAnswer
     ensures { λ r. ⌜ r ≡ stripOf a b from to ⌝ }
@@ -35,12 +47,7 @@ pub(crate) fn strip_of(a: f64, b: f64, from: QueryAnswer, to: QueryAnswer) -> Qu
         QueryAnswer::Refused(_) => from,
         QueryAnswer::Number(p) => match to {
             QueryAnswer::Refused(_) => to,
-            QueryAnswer::Number(q) => {
-                if a < b {
-                    return QueryAnswer::Number(mark((q.number - p.number) / (b - a)));
-                }
-                QueryAnswer::Refused(Refusal::StripEndsNotRising)
-            }
+            QueryAnswer::Number(q) => between(a, b, p.number, q.number),
         },
     }
 }
@@ -51,11 +58,12 @@ pub fn strip(xs: &[f64], curve: Curve, tags: &[u16], slots: &[f64], a: f64, b: f
 {
     match curve_verdict(xs, tags.len(), slots.len()) {
         Verdict::Refused(refusal) => QueryAnswer::Refused(refusal),
-        Verdict::Accepted => strip_of(
-            a,
-            b,
-            total_to(xs, curve, tags, slots, a),
-            total_to(xs, curve, tags, slots, b),
-        ),
+        Verdict::Accepted => match total_to(xs, curve, tags, slots, a) {
+            QueryAnswer::Refused(refusal) => QueryAnswer::Refused(refusal),
+            QueryAnswer::Number(p) => match total_to(xs, curve, tags, slots, b) {
+                QueryAnswer::Refused(refusal) => QueryAnswer::Refused(refusal),
+                QueryAnswer::Number(q) => between(a, b, p.number, q.number),
+            },
+        },
     }
 }
