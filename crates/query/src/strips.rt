@@ -48,14 +48,14 @@ fn each_verdict(
             place = since.place;
         }
         let until = look(false, Wanted::Total, xs, curve, tags, slots, place, end);
-        let total = until.answer;
-        match strip_of(start, end, before, total).verdict() {
+        let answer = until.answer;
+        match strip_of(start, end, before, answer).verdict() {
             Verdict::Refused(refusal) => {
                 return ManyAnswer::RefusedAt(refusal, k);
             }
             Verdict::Accepted => {}
         }
-        before = total;
+        before = answer;
         place = until.place;
     }
     ManyAnswer::Answered
