@@ -10,7 +10,7 @@ use table::check::room_verdict;
 use table::ends::Frame;
 
 // What making answers: the tail, or why nothing was made.
-#[derive(Drop)]
+#[derive(Clone, Copy)]
 pub enum Made {
     Tail(Tail),
     Refused(Refusal),

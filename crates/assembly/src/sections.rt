@@ -21,7 +21,7 @@ use section::section::Section;
 use table::ends::Frame;
 
 // A constant section's three numbers, as a curve keeps them for queries from the last knot on.
-#[derive(Drop)]
+#[derive(Clone, Copy)]
 pub struct Tail {
     pub value: f64,
     pub total: f64,

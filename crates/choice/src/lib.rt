@@ -1,4 +1,6 @@
 // Which section covers a period: the four steps of the choice, each part made only where the answer holds it.
+#![tactic(auto)]
+
 mod convex_part;
 pub mod period;
 mod quadratic_part;

@@ -65,9 +65,9 @@ module _ (tags : List ℕ) (from : ℕ) where
         }
 
 -- what is listed is within the lists
-pub listed_within : (tags : List ℕ) (from to : ℕ) (places : List ℕ) (count knots allTags slots entries : ℕ) → Listed tags from to places count →
-    to ≤ knots → to ≤ allTags → slot_count * to ≤ slots → to ≤ entries → to ≤ 4096 → (k : ℕ) → k < count → Within knots allTags slots entries (get_or places k 0)
-listed_within tags from to places count knots allTags slots entries h a b c d e k l =
+pub listed_within : (tags : List ℕ) (from to : ℕ) (places : List ℕ) (count knots all_tags slots entries : ℕ) → Listed tags from to places count →
+    to ≤ knots → to ≤ all_tags → slot_count * to ≤ slots → to ≤ entries → to ≤ 4096 → (k : ℕ) → k < count → Within knots all_tags slots entries (get_or places k 0)
+listed_within tags from to places count knots all_tags slots entries h a b c d e k l =
     let u = (h.inside k l).1 in record { small = omega arith; knot = omega arith; tag = omega arith; slot = omega arith; entry = omega arith }
 
 -- ---- the entries

@@ -149,16 +149,16 @@ grown_strip x y method hold b column (carried.Seam s) o c e f = same_strip x y m
 -- ---- of the functions themselves: whatever they leave in the lent buffers, `strip_between` over it and `strip` answer the same
 pub build_strips : Follows build-with-column.Post (λ κ a r s.
     let (xs, (ys, (method, (hold, (seam, (nodes, (tags, (slots, (column, _))))))))) = a in
-    let (_, (_, (_, (_, (_, (nodesLeft, (tagsLeft, (slotsLeft, (columnLeft, _))))))))) = s in
-    (c : Curve) → r ≡ built.Curve c → SameStrip xs.now c tagsLeft.now slotsLeft.now columnLeft.now)
-build_strips κ (xs, (ys, (method, (hold, (seam, (nodes, (tags, (slots, (column, _))))))))) r (_, (_, (_, (_, (_, (nodesLeft, (tagsLeft, (slotsLeft, (columnLeft, _))))))))) p c f =
+    let (_, (_, (_, (_, (_, (nodes_left, (tags_left, (slots_left, (column_left, _))))))))) = s in
+    (c : Curve) → r ≡ built.Curve c → SameStrip xs.now c tags_left.now slots_left.now column_left.now)
+build_strips κ (xs, (ys, (method, (hold, (seam, (nodes, (tags, (slots, (column, _))))))))) r (_, (_, (_, (_, (_, (nodes_left, (tags_left, (slots_left, (column_left, _))))))))) p c f =
     same_strip xs.now ys.now method hold seam (buffers nodes.now tags.now slots.now) column.now
-    (columned r nodesLeft.now tagsLeft.now slotsLeft.now columnLeft.now) c p f
+    (columned r nodes_left.now tags_left.now slots_left.now column_left.now) c p f
 
 pub grow_strips : Follows grow-with-column.Post (λ κ a r s.
-    let (xs, (ys, (method, (localisation, (final, (previous, (oldTags, (oldSlots, (nodes, (tags, (slots, (column, _)))))))))))) = a in
-    let (_, (_, (_, (_, (_, (_, (_, (_, (nodesLeft, (tagsLeft, (slotsLeft, (columnLeft, _)))))))))))) = s in
-    (c : Curve) → r ≡ built.Curve c → SameStrip xs.now c tagsLeft.now slotsLeft.now columnLeft.now)
-grow_strips κ (xs, (ys, (method, (localisation, (final, (previous, (oldTags, (oldSlots, (nodes, (tags, (slots, (column, _)))))))))))) r (_, (_, (_, (_, (_, (_, (_, (_, (nodesLeft, (tagsLeft, (slotsLeft, (columnLeft, _)))))))))))) p c f =
+    let (xs, (ys, (method, (localisation, (final, (previous, (old_tags, (old_slots, (nodes, (tags, (slots, (column, _)))))))))))) = a in
+    let (_, (_, (_, (_, (_, (_, (_, (_, (nodes_left, (tags_left, (slots_left, (column_left, _)))))))))))) = s in
+    (c : Curve) → r ≡ built.Curve c → SameStrip xs.now c tags_left.now slots_left.now column_left.now)
+grow_strips κ (xs, (ys, (method, (localisation, (final, (previous, (old_tags, (old_slots, (nodes, (tags, (slots, (column, _)))))))))))) r (_, (_, (_, (_, (_, (_, (_, (_, (nodes_left, (tags_left, (slots_left, (column_left, _)))))))))))) p c f =
     grown_strip xs.now ys.now method (holds (length xs.now) final) (buffers nodes.now tags.now slots.now) column.now
-    (carried_at (length xs.now) localisation previous oldTags.now oldSlots.now) (columned r nodesLeft.now tagsLeft.now slotsLeft.now columnLeft.now) c p f
+    (carried_at (length xs.now) localisation previous old_tags.now old_slots.now) (columned r nodes_left.now tags_left.now slots_left.now column_left.now) c p f

@@ -18,8 +18,8 @@ use Rattle.section.specs.declared.section.Section.TheVariants as section
 use Rattle.record.specs.Slots.{slots_of, quadratic_slots, convex_slots, layout, record_of}
 use Rattle.record.specs.Tag.{quadratic_bits, other_bits, quadratic_tag, convex_tag, tag_of, quadratic_split_tag, other_split_tag, split_tag}
 use Rattle.record.specs.Unusual.{unusual_split}
-use Rattle.record.specs.declared.tag.QuadraticKind.TheVariants as quadraticKind
-use Rattle.record.specs.declared.tag.OtherKind.TheVariants as otherKind
+use Rattle.record.specs.declared.tag.QuadraticKind.TheVariants as quadratic_kind
+use Rattle.record.specs.declared.tag.OtherKind.TheVariants as other_kind
 use Rattle.choice.specs.Starts.{quadratic_unusual, convex_unusual, unusual_in}
 
 pub usual_whole : (tag : ℕ) (s : List Float) (x : Float) → split_tag tag ≡ false → unusual_split tag s x ≡ false
@@ -41,10 +41,10 @@ or_nothing false = refl
 
 -- the two Min kinds, by their split bits
 abbrev quadratic_min_tag : Bool → ℕ
-quadratic_min_tag b = cond b (quadratic_bits quadraticKind.QuadraticMinSplit) (quadratic_bits quadraticKind.QuadraticMin)
+quadratic_min_tag b = cond b (quadratic_bits quadratic_kind.QuadraticMinSplit) (quadratic_bits quadratic_kind.QuadraticMin)
 
 abbrev convex_min_tag : Bool → ℕ
-convex_min_tag b = cond b (other_bits otherKind.ConvexMonotone4MinSplit) (other_bits otherKind.ConvexMonotone4Min)
+convex_min_tag b = cond b (other_bits other_kind.ConvexMonotone4MinSplit) (other_bits other_kind.ConvexMonotone4Min)
 
 -- a record's numbers after its section's own, and the place that is asked about
 module _ (left right total x : Float) where
@@ -59,16 +59,16 @@ module _ (left right total x : Float) where
   two_parts (quadratic.Quadratic s) (convex.ConvexMonotone4 t) w = refl
   two_parts (quadratic.Quadratic s) (convex.ConvexMonotone4Min t) w =
       let k = section.Combination (record { quadraticity = w; quadratic_helper = quadratic.Quadratic s; conv_mono_helper = convex.ConvexMonotone4Min t }) in
-      of_bit (λ b. tells k (quadratic_bits quadraticKind.Quadratic + convex_min_tag b) ≡ (b && not (le x t.x2 && ordinary_ratio t.x_ratio))) refl refl t.split_region
+      of_bit (λ b. tells k (quadratic_bits quadratic_kind.Quadratic + convex_min_tag b) ≡ (b && not (le x t.x2 && ordinary_ratio t.x_ratio))) refl refl t.split_region
   two_parts (quadratic.QuadraticMin s) (convex.ConvexMonotone2 t) w =
       let k = section.Combination (record { quadraticity = w; quadratic_helper = quadratic.QuadraticMin s; conv_mono_helper = convex.ConvexMonotone2 t }) in
-      of_bit (λ b. tells k (quadratic_min_tag b + other_bits otherKind.ConvexMonotone2) ≡ ((b && not (lt x s.x2 && ordinary_ratio s.x_ratio)) || false)) refl refl s.split_region
+      of_bit (λ b. tells k (quadratic_min_tag b + other_bits other_kind.ConvexMonotone2) ≡ ((b && not (lt x s.x2 && ordinary_ratio s.x_ratio)) || false)) refl refl s.split_region
   two_parts (quadratic.QuadraticMin s) (convex.ConvexMonotone3 t) w =
       let k = section.Combination (record { quadraticity = w; quadratic_helper = quadratic.QuadraticMin s; conv_mono_helper = convex.ConvexMonotone3 t }) in
-      of_bit (λ b. tells k (quadratic_min_tag b + other_bits otherKind.ConvexMonotone3) ≡ ((b && not (lt x s.x2 && ordinary_ratio s.x_ratio)) || false)) refl refl s.split_region
+      of_bit (λ b. tells k (quadratic_min_tag b + other_bits other_kind.ConvexMonotone3) ≡ ((b && not (lt x s.x2 && ordinary_ratio s.x_ratio)) || false)) refl refl s.split_region
   two_parts (quadratic.QuadraticMin s) (convex.ConvexMonotone4 t) w =
       let k = section.Combination (record { quadraticity = w; quadratic_helper = quadratic.QuadraticMin s; conv_mono_helper = convex.ConvexMonotone4 t }) in
-      of_bit (λ b. tells k (quadratic_min_tag b + other_bits otherKind.ConvexMonotone4) ≡ ((b && not (lt x s.x2 && ordinary_ratio s.x_ratio)) || false)) refl refl s.split_region
+      of_bit (λ b. tells k (quadratic_min_tag b + other_bits other_kind.ConvexMonotone4) ≡ ((b && not (lt x s.x2 && ordinary_ratio s.x_ratio)) || false)) refl refl s.split_region
   two_parts (quadratic.QuadraticMin s) (convex.ConvexMonotone4Min t) w =
       let k = section.Combination (record { quadraticity = w; quadratic_helper = quadratic.QuadraticMin s; conv_mono_helper = convex.ConvexMonotone4Min t }) in
       let p = not (lt x s.x2 && ordinary_ratio s.x_ratio) in

@@ -2,7 +2,7 @@
 ghost use Rattle.std.specs.Prelude.{◌≡◌};
 ghost use Rattle.convex.specs.ConvexMonotone2.{new, value, primitive, f_next};
 
-#[derive(Drop)]
+#[derive(Clone, Copy)]
 pub struct ConvexMonotone2 {
     pub x_prev: f64,
     pub x_scaling: f64,

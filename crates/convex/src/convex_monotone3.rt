@@ -2,7 +2,7 @@
 ghost use Rattle.std.specs.Prelude.{◌≡◌};
 ghost use Rattle.convex.specs.ConvexMonotone3.{new, value, primitive, f_next};
 
-#[derive(Drop)]
+#[derive(Clone, Copy)]
 pub struct ConvexMonotone3 {
     pub x_prev: f64,
     pub x_scaling: f64,

@@ -2,7 +2,7 @@
 ghost use Rattle.std.specs.Prelude.{◌≡◌};
 ghost use Rattle.convex.specs.ConvexMonotone4.{new, value, primitive, f_next, left_value, right_value, left_primitive, right_primitive};
 
-#[derive(Drop)]
+#[derive(Clone, Copy)]
 pub struct ConvexMonotone4 {
     pub x_prev: f64,
     pub x_scaling: f64,

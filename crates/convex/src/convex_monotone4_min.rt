@@ -5,7 +5,7 @@ ghost use Rattle.convex.specs.ConvexMonotone4Min.{new, safe, in_mode, squeezed_a
 use crate::convex_monotone4::ConvexMonotone4;
 use numbers::NARROW;
 
-#[derive(Drop)]
+#[derive(Clone, Copy)]
 pub struct ConvexMonotone4Min {
     pub base: ConvexMonotone4,
     pub split_region: bool,

@@ -1,4 +1,6 @@
 // The four convex monotone kinds of section.
+#![tactic(auto)]
+
 pub mod convex_monotone2;
 pub mod convex_monotone3;
 pub mod convex_monotone4;

@@ -59,7 +59,7 @@ same_verdict x y method seam b = refl
 -- of `build` itself, whatever it leaves in the lent buffers
 pub build_within : Follows build.Post (λ κ a r s.
     let (xs, (ys, (method, (hold, (seam, (nodes, (tags, (slots, _)))))))) = a in
-    let (_, (_, (_, (_, (_, (nodesLeft, (tagsLeft, (slotsLeft, _)))))))) = s in
-    (method.split ≡ split.Original → ⊥) → (c : Curve) → r ≡ built.Curve c → (i : ℕ) → i < length xs.now - 1 → WithinAt xs.now tagsLeft.now slotsLeft.now i)
-build_within κ (xs, (ys, (method, (hold, (seam, (nodes, (tags, (slots, _)))))))) r (_, (_, (_, (_, (_, (nodesLeft, (tagsLeft, (slotsLeft, _)))))))) p other c f i l =
-    answered_within xs.now ys.now method hold seam (buffers nodes.now tags.now slots.now) other (outcome r nodesLeft.now tagsLeft.now slotsLeft.now) c p f i l
+    let (_, (_, (_, (_, (_, (nodes_left, (tags_left, (slots_left, _)))))))) = s in
+    (method.split ≡ split.Original → ⊥) → (c : Curve) → r ≡ built.Curve c → (i : ℕ) → i < length xs.now - 1 → WithinAt xs.now tags_left.now slots_left.now i)
+build_within κ (xs, (ys, (method, (hold, (seam, (nodes, (tags, (slots, _)))))))) r (_, (_, (_, (_, (_, (nodes_left, (tags_left, (slots_left, _)))))))) p other c f i l =
+    answered_within xs.now ys.now method hold seam (buffers nodes.now tags.now slots.now) other (outcome r nodes_left.now tags_left.now slots_left.now) c p f i l

@@ -53,8 +53,8 @@ module _ (x y : List Float) (method : ConvexMonotone) (hold : Bool) (b : Buffers
 -- of `build` itself, whatever it leaves in the lent buffers
 pub build_finite : Follows build.Post (λ κ a r s.
     let (xs, (ys, (method, (hold, (given, (nodes, (tags, (slots, _)))))))) = a in
-    let (_, (_, (_, (_, (_, (nodesLeft, (tagsLeft, (slotsLeft, _)))))))) = s in
+    let (_, (_, (_, (_, (_, (nodes_left, (tags_left, (slots_left, _)))))))) = s in
     Safe method → given ≡ seam.Absent → OrdinaryTable xs.now ys.now → (c : Curve) → r ≡ built.Curve c → (i : ℕ) → i < length xs.now - 1 →
-    FiniteAt xs.now tagsLeft.now slotsLeft.now i)
-build_finite κ (xs, (ys, (method, (hold, (given, (nodes, (tags, (slots, _)))))))) r (_, (_, (_, (_, (_, (nodesLeft, (tagsLeft, (slotsLeft, _)))))))) p set none sizes c f i l =
-    answered_finite xs.now ys.now method hold (buffers nodes.now tags.now slots.now) set sizes (outcome r nodesLeft.now tagsLeft.now slotsLeft.now) c (rw none at p) f i l
+    FiniteAt xs.now tags_left.now slots_left.now i)
+build_finite κ (xs, (ys, (method, (hold, (given, (nodes, (tags, (slots, _)))))))) r (_, (_, (_, (_, (_, (nodes_left, (tags_left, (slots_left, _)))))))) p set none sizes c f i l =
+    answered_finite xs.now ys.now method hold (buffers nodes.now tags.now slots.now) set sizes (outcome r nodes_left.now tags_left.now slots_left.now) c (rw none at p) f i l

@@ -88,28 +88,28 @@ module _ (x y : List Float) (method : ConvexMonotone) (hold : Bool) (seam : Seam
 -- of `build` itself, whatever it leaves in the lent buffers
 pub build_knots : Follows build.Post (λ κ a r s.
     let (xs, (ys, (method, (hold, (given, (nodes, (tags, (slots, _)))))))) = a in
-    let (_, (_, (_, (_, (_, (nodesLeft, (tagsLeft, (slotsLeft, _)))))))) = s in
-    (c : Curve) → r ≡ built.Curve c → KnotsIn xs.now ys.now method hold given (buffers nodesLeft.now tagsLeft.now slotsLeft.now))
-build_knots κ (xs, (ys, (method, (hold, (given, (nodes, (tags, (slots, _)))))))) r (_, (_, (_, (_, (_, (nodesLeft, (tagsLeft, (slotsLeft, _)))))))) p c f =
-    answered_knots xs.now ys.now method hold given (buffers nodes.now tags.now slots.now) (outcome r nodesLeft.now tagsLeft.now slotsLeft.now) c p f
+    let (_, (_, (_, (_, (_, (nodes_left, (tags_left, (slots_left, _)))))))) = s in
+    (c : Curve) → r ≡ built.Curve c → KnotsIn xs.now ys.now method hold given (buffers nodes_left.now tags_left.now slots_left.now))
+build_knots κ (xs, (ys, (method, (hold, (given, (nodes, (tags, (slots, _)))))))) r (_, (_, (_, (_, (_, (nodes_left, (tags_left, (slots_left, _)))))))) p c f =
+    answered_knots xs.now ys.now method hold given (buffers nodes.now tags.now slots.now) (outcome r nodes_left.now tags_left.now slots_left.now) c p f
 
 pub build_tail : Follows build.Post (λ κ a r s.
     let (xs, (ys, (method, (hold, (given, (nodes, (tags, (slots, _)))))))) = a in
-    let (_, (_, (_, (_, (_, (nodesLeft, (tagsLeft, (slotsLeft, _)))))))) = s in
-    (c : Curve) → r ≡ built.Curve c → (whole_frame (length xs.now) method hold given).hold ≡ false → TailInRecord (length xs.now - 2) slotsLeft.now c.tail)
-build_tail κ (xs, (ys, (method, (hold, (given, (nodes, (tags, (slots, _)))))))) r (_, (_, (_, (_, (_, (nodesLeft, (tagsLeft, (slotsLeft, _)))))))) p c f h =
-    answered_tail xs.now ys.now method hold given (buffers nodes.now tags.now slots.now) (outcome r nodesLeft.now tagsLeft.now slotsLeft.now) c p f h
+    let (_, (_, (_, (_, (_, (nodes_left, (tags_left, (slots_left, _)))))))) = s in
+    (c : Curve) → r ≡ built.Curve c → (whole_frame (length xs.now) method hold given).hold ≡ false → TailInRecord (length xs.now - 2) slots_left.now c.tail)
+build_tail κ (xs, (ys, (method, (hold, (given, (nodes, (tags, (slots, _)))))))) r (_, (_, (_, (_, (_, (nodes_left, (tags_left, (slots_left, _)))))))) p c f h =
+    answered_tail xs.now ys.now method hold given (buffers nodes.now tags.now slots.now) (outcome r nodes_left.now tags_left.now slots_left.now) c p f h
 
 pub build_held : Follows build.Post (λ κ a r s.
     let (xs, (ys, (method, (hold, (given, (nodes, (tags, (slots, _)))))))) = a in
-    let (_, (_, (_, (_, (_, (nodesLeft, (tagsLeft, (slotsLeft, _)))))))) = s in
-    (c : Curve) → r ≡ built.Curve c → (whole_frame (length xs.now) method hold given).hold ≡ true → HeldPrices (length xs.now - 2) ys.now slotsLeft.now)
-build_held κ (xs, (ys, (method, (hold, (given, (nodes, (tags, (slots, _)))))))) r (_, (_, (_, (_, (_, (nodesLeft, (tagsLeft, (slotsLeft, _)))))))) p c f h =
-    answered_held xs.now ys.now method hold given (buffers nodes.now tags.now slots.now) (outcome r nodesLeft.now tagsLeft.now slotsLeft.now) c p f h
+    let (_, (_, (_, (_, (_, (nodes_left, (tags_left, (slots_left, _)))))))) = s in
+    (c : Curve) → r ≡ built.Curve c → (whole_frame (length xs.now) method hold given).hold ≡ true → HeldPrices (length xs.now - 2) ys.now slots_left.now)
+build_held κ (xs, (ys, (method, (hold, (given, (nodes, (tags, (slots, _)))))))) r (_, (_, (_, (_, (_, (nodes_left, (tags_left, (slots_left, _)))))))) p c f h =
+    answered_held xs.now ys.now method hold given (buffers nodes.now tags.now slots.now) (outcome r nodes_left.now tags_left.now slots_left.now) c p f h
 
 pub build_two_points : Follows build.Post (λ κ a r s.
     let (xs, (ys, (method, (hold, (given, (nodes, (tags, (slots, _)))))))) = a in
-    let (_, (_, (_, (_, (_, (nodesLeft, (tagsLeft, (slotsLeft, _)))))))) = s in
-    (c : Curve) → r ≡ built.Curve c → length xs.now ≡ 2 → TwoPoints xs.now ys.now slotsLeft.now)
-build_two_points κ (xs, (ys, (method, (hold, (given, (nodes, (tags, (slots, _)))))))) r (_, (_, (_, (_, (_, (nodesLeft, (tagsLeft, (slotsLeft, _)))))))) p c f two =
-    answered_two_points xs.now ys.now method hold given (buffers nodes.now tags.now slots.now) (outcome r nodesLeft.now tagsLeft.now slotsLeft.now) c p f two
+    let (_, (_, (_, (_, (_, (nodes_left, (tags_left, (slots_left, _)))))))) = s in
+    (c : Curve) → r ≡ built.Curve c → length xs.now ≡ 2 → TwoPoints xs.now ys.now slots_left.now)
+build_two_points κ (xs, (ys, (method, (hold, (given, (nodes, (tags, (slots, _)))))))) r (_, (_, (_, (_, (_, (nodes_left, (tags_left, (slots_left, _)))))))) p c f two =
+    answered_two_points xs.now ys.now method hold given (buffers nodes.now tags.now slots.now) (outcome r nodes_left.now tags_left.now slots_left.now) c p f two

@@ -69,7 +69,7 @@ module _ (x y : List Float) (method : ConvexMonotone) (hold : Bool) (seam : Seam
 -- of `build` itself, whatever it leaves in the lent nodes
 pub build_not_below : Follows build.Post (λ κ a r s.
     let (xs, (ys, (method, (hold, (seam, (nodes, (tags, (slots, _)))))))) = a in
-    let (_, (_, (_, (_, (_, (nodesLeft, _)))))) = s in
-    safely method ≡ true → SeamNotBelow seam → (c : Curve) → r ≡ built.Curve c → (i : ℕ) → i < length xs.now → NotBelow (at nodesLeft.now i))
-build_not_below κ (xs, (ys, (method, (hold, (seam, (nodes, (tags, (slots, _)))))))) r (_, (_, (_, (_, (_, (nodesLeft, (tagsLeft, (slotsLeft, _)))))))) p safe given c f i l =
-    answered_not_below xs.now ys.now method hold seam (buffers nodes.now tags.now slots.now) safe given (outcome r nodesLeft.now tagsLeft.now slotsLeft.now) c p f i l
+    let (_, (_, (_, (_, (_, (nodes_left, _)))))) = s in
+    safely method ≡ true → SeamNotBelow seam → (c : Curve) → r ≡ built.Curve c → (i : ℕ) → i < length xs.now → NotBelow (at nodes_left.now i))
+build_not_below κ (xs, (ys, (method, (hold, (seam, (nodes, (tags, (slots, _)))))))) r (_, (_, (_, (_, (_, (nodes_left, (tags_left, (slots_left, _)))))))) p safe given c f i l =
+    answered_not_below xs.now ys.now method hold seam (buffers nodes.now tags.now slots.now) safe given (outcome r nodes_left.now tags_left.now slots_left.now) c p f i l

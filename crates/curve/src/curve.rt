@@ -5,7 +5,7 @@ ghost use Rattle.curve.specs.Curve.{with_extrapolation, curve_in_numbers};
 use assembly::sections::Tail;
 use refusal::Refusal;
 
-#[derive(Drop)]
+#[derive(Clone, Copy)]
 pub struct Curve {
     pub sections: usize,
     pub held: bool,
@@ -14,7 +14,7 @@ pub struct Curve {
 }
 
 // What a build answers.
-#[derive(Drop)]
+#[derive(Clone, Copy)]
 pub enum Built {
     Curve(Curve),
     Refused(Refusal),
@@ -31,7 +31,7 @@ impl Curve {
 }
 
 // An answer in numbers: the refusal's, or 0, and what a curve has; a refused one has nothing.
-#[derive(Drop)]
+#[derive(Clone, Copy)]
 pub struct CurveInNumbers {
     pub refusal: u8,
     pub sections: usize,

@@ -1,4 +1,6 @@
 // Reads an order from standard input and writes its answer.
+#![tactic(auto)]
+
 ghost use Rattle.std.specs.Prelude.{◌≡◌, ◌≤◌, length};
 
 use order::answer::{OrderAnswer, answer};

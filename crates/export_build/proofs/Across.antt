@@ -53,14 +53,14 @@ pub curve_written : (b : Built) (c : Curve) (sections : List ℕ) (tail : List F
 curve_written b c sections tail e = (rw e, (rw e, rw e))
 
 -- a mode that is not known: no slice changes
-pub mode_refused : (b : Buffers) (sections : List ℕ) (tail : List Float) (d : Outcome Built) (isUnknown : Bool) (n : ℕ) → isUnknown ≡ true → n ≡ number SplitUnknown →
-    record { refusal = n; buffers = b; sections = sections; tail = tail } ≡ in_mode isUnknown b sections tail d
-mode_refused b sections tail d isUnknown n h e = rw (h, e)
+pub mode_refused : (b : Buffers) (sections : List ℕ) (tail : List Float) (d : Outcome Built) (is_unknown : Bool) (n : ℕ) → is_unknown ≡ true → n ≡ number SplitUnknown →
+    record { refusal = n; buffers = b; sections = sections; tail = tail } ≡ in_mode is_unknown b sections tail d
+mode_refused b sections tail d is_unknown n h e = rw (h, e)
 
 -- in a known mode, whatever the library answers and leaves
-module _ (isUnknown : Bool) (known : isUnknown ≡ false) (b : Buffers) (sections : List ℕ) (tail : List Float) (d : Outcome Built) where
+module _ (is_unknown : Bool) (known : is_unknown ≡ false) (b : Buffers) (sections : List ℕ) (tail : List Float) (d : Outcome Built) where
   pub curve_short : (n : ℕ) → no_answer (length sections) (length tail) ≡ true → n ≡ short_refusal d.answer →
-      record { refusal = n; buffers = b; sections = sections; tail = tail } ≡ in_mode isUnknown b sections tail d
+      record { refusal = n; buffers = b; sections = sections; tail = tail } ≡ in_mode is_unknown b sections tail d
   curve_short n h e = rw (known, h, e)
 
   abbrev told : Outcome Built → CurveAcross
@@ -68,7 +68,7 @@ module _ (isUnknown : Bool) (known : isUnknown ≡ false) (b : Buffers) (section
 
   pub curve_roomy : (o : Outcome Built) (n : ℕ) (s : List ℕ) (t : List Float) → no_answer (length sections) (length tail) ≡ false → o ≡ d →
       (n ≡ (curve_in_numbers o.answer).refusal) × ((s ≡ count_left o.answer sections) × (t ≡ tail_left o.answer tail)) →
-      record { refusal = n; buffers = o.buffers; sections = s; tail = t } ≡ in_mode isUnknown b sections tail d
+      record { refusal = n; buffers = o.buffers; sections = s; tail = t } ≡ in_mode is_unknown b sections tail d
   curve_roomy o n s t h e (p, (q, r)) = rw (p, q, r) (ap told e ∙ rw (known, h))
 
 -- the refusal where there is no room for the answers: of a build, of a growing table and of one in sheets
@@ -117,20 +117,20 @@ pub end_written : (b : SheetBuilt) (s : SheetEnd) (answer : List Float) → b �
     × (set (set (set (set answer 0 s.total) 1 s.tail.value) 2 s.tail.total) 3 s.tail.from ≡ one-sheet.end_left b answer)
 end_written b s answer e = (rw e, rw e)
 
-pub sheet_mode_refused : (b : Buffers) (answer : List Float) (d : Outcome SheetBuilt) (isUnknown : Bool) (n : ℕ) → isUnknown ≡ true → n ≡ number SplitUnknown →
-    record { refusal = n; buffers = b; answer = answer } ≡ one-sheet.in_mode_sheet isUnknown b answer d
-sheet_mode_refused b answer d isUnknown n h e = rw (h, e)
+pub sheet_mode_refused : (b : Buffers) (answer : List Float) (d : Outcome SheetBuilt) (is_unknown : Bool) (n : ℕ) → is_unknown ≡ true → n ≡ number SplitUnknown →
+    record { refusal = n; buffers = b; answer = answer } ≡ one-sheet.in_mode_sheet is_unknown b answer d
+sheet_mode_refused b answer d is_unknown n h e = rw (h, e)
 
-module _ (isUnknown : Bool) (known : isUnknown ≡ false) (b : Buffers) (answer : List Float) (d : Outcome SheetBuilt) where
+module _ (is_unknown : Bool) (known : is_unknown ≡ false) (b : Buffers) (answer : List Float) (d : Outcome SheetBuilt) where
   pub sheet_short : (n : ℕ) → ltb (length answer) 4 ≡ true → n ≡ one-sheet.short_refusal d.answer →
-      record { refusal = n; buffers = b; answer = answer } ≡ one-sheet.in_mode_sheet isUnknown b answer d
+      record { refusal = n; buffers = b; answer = answer } ≡ one-sheet.in_mode_sheet is_unknown b answer d
   sheet_short n h e = rw (known, h, e)
 
   abbrev told_sheet : Outcome SheetBuilt → one-sheet.SheetAcross
   told_sheet o = record { refusal = (sheet_in_numbers o.answer).refusal; buffers = o.buffers; answer = one-sheet.end_left o.answer answer }
 
   pub sheet_roomy : (o : Outcome SheetBuilt) (n : ℕ) (l : List Float) → ltb (length answer) 4 ≡ false → o ≡ d →
-      (n ≡ (sheet_in_numbers o.answer).refusal) × (l ≡ one-sheet.end_left o.answer answer) → record { refusal = n; buffers = o.buffers; answer = l } ≡ one-sheet.in_mode_sheet isUnknown b answer d
+      (n ≡ (sheet_in_numbers o.answer).refusal) × (l ≡ one-sheet.end_left o.answer answer) → record { refusal = n; buffers = o.buffers; answer = l } ≡ one-sheet.in_mode_sheet is_unknown b answer d
   sheet_roomy o n l h e (p, q) = rw (p, q) (ap told_sheet e ∙ rw (known, h))
 
 last_of_sheet : (v : Verdict) (b : Buffers) (new : Outcome SheetBuilt) (s : SheetEnd) → new.answer ≡ sheet-built.Sheet s →

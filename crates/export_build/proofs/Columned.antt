@@ -17,14 +17,14 @@ use Rattle.export_build.specs.Building.{no_answer, short_refusal, count_left, ta
 use Rattle.export_build.specs.Columns.{ColumnAcross, in_mode_column}
 
 -- a mode that is not known: no slice changes
-pub column_mode_refused : (b : Buffers) (sections : List ℕ) (tail column : List Float) (d : Columned) (isUnknown : Bool) (n : ℕ) → isUnknown ≡ true → n ≡ number SplitUnknown →
-    record { refusal = n; buffers = b; sections = sections; tail = tail; column = column } ≡ in_mode_column isUnknown b sections tail column d
-column_mode_refused b sections tail column d isUnknown n h e = rw (h, e)
+pub column_mode_refused : (b : Buffers) (sections : List ℕ) (tail column : List Float) (d : Columned) (is_unknown : Bool) (n : ℕ) → is_unknown ≡ true → n ≡ number SplitUnknown →
+    record { refusal = n; buffers = b; sections = sections; tail = tail; column = column } ≡ in_mode_column is_unknown b sections tail column d
+column_mode_refused b sections tail column d is_unknown n h e = rw (h, e)
 
 -- in a known mode, whatever the library answers and leaves
-module _ (isUnknown : Bool) (known : isUnknown ≡ false) (b : Buffers) (sections : List ℕ) (tail column : List Float) (d : Columned) where
+module _ (is_unknown : Bool) (known : is_unknown ≡ false) (b : Buffers) (sections : List ℕ) (tail column : List Float) (d : Columned) where
   pub column_short : (n : ℕ) → no_answer (length sections) (length tail) ≡ true → n ≡ short_refusal d.answer →
-      record { refusal = n; buffers = b; sections = sections; tail = tail; column = column } ≡ in_mode_column isUnknown b sections tail column d
+      record { refusal = n; buffers = b; sections = sections; tail = tail; column = column } ≡ in_mode_column is_unknown b sections tail column d
   column_short n h e = rw (known, h, e)
 
   abbrev told : Columned → ColumnAcross
@@ -33,7 +33,7 @@ module _ (isUnknown : Bool) (known : isUnknown ≡ false) (b : Buffers) (section
 
   pub column_roomy : (o : Columned) (n : ℕ) (s : List ℕ) (t : List Float) → no_answer (length sections) (length tail) ≡ false → o ≡ d →
       (n ≡ (curve_in_numbers o.answer).refusal) × ((s ≡ count_left o.answer sections) × (t ≡ tail_left o.answer tail)) →
-      record { refusal = n; buffers = o.buffers; sections = s; tail = t; column = o.column } ≡ in_mode_column isUnknown b sections tail column d
+      record { refusal = n; buffers = o.buffers; sections = s; tail = t; column = o.column } ≡ in_mode_column is_unknown b sections tail column d
   column_roomy o n s t h e (p, (q, r)) = rw (p, q, r) (ap told e ∙ rw (known, h))
 
 -- with no room for the answers a short column adds nothing: its refusal is the same 11

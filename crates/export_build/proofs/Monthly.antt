@@ -65,7 +65,7 @@ module _ (from to : ℤ) (months : ℕ) (knots : List Float) (count : List ℕ) 
       knots_made_lem k g h = rw (known, sym e, g, le-ltb _ _ h)
 
 -- a curve
-module _ (from to : ℤ) (months : ℕ) (y : List Float) (method : ConvexMonotone) (hold : Bool) (seam : Seam) (knots : List Float) (b : Buffers) (sections : List ℕ) (tail : List Float) (isUnknown : Bool) where
+module _ (from to : ℤ) (months : ℕ) (y : List Float) (method : ConvexMonotone) (hold : Bool) (seam : Seam) (knots : List Float) (b : Buffers) (sections : List ℕ) (tail : List Float) (is_unknown : Bool) where
   abbrev out : Monthly
   out = monthly_outcome from to (size_of months) y method hold seam knots b
 
@@ -73,33 +73,33 @@ module _ (from to : ℤ) (months : ℕ) (y : List Float) (method : ConvexMonoton
   holds = (months_test from to (size_of months)).holds
 
   pub months_no_size : (n : ℕ) → no_size months ≡ true → n ≡ number MonthsNotPeriods →
-      record { refusal = n; knots = knots; buffers = b; sections = sections; tail = tail } ≡ months_across (not_periods from to months) isUnknown knots b sections tail out
+      record { refusal = n; knots = knots; buffers = b; sections = sections; tail = tail } ≡ months_across (not_periods from to months) is_unknown knots b sections tail out
   months_no_size n h e = rw (h, e)
 
   module _ (known : no_size months ≡ false) where
-    pub months_no_split : (n : ℕ) → isUnknown ≡ true → n ≡ after_months from to (size_of months) SplitUnknown →
-        record { refusal = n; knots = knots; buffers = b; sections = sections; tail = tail } ≡ months_across (not_periods from to months) isUnknown knots b sections tail out
+    pub months_no_split : (n : ℕ) → is_unknown ≡ true → n ≡ after_months from to (size_of months) SplitUnknown →
+        record { refusal = n; knots = knots; buffers = b; sections = sections; tail = tail } ≡ months_across (not_periods from to months) is_unknown knots b sections tail out
     months_no_split n u e = by holds refl
       where
-        by : (t : Bool) → holds ≡ t → record { refusal = n; knots = knots; buffers = b; sections = sections; tail = tail } ≡ months_across (not_periods from to months) isUnknown knots b sections tail out
+        by : (t : Bool) → holds ≡ t → record { refusal = n; knots = knots; buffers = b; sections = sections; tail = tail } ≡ months_across (not_periods from to months) is_unknown knots b sections tail out
         by true h = rw (known, e, h)
         by false h = rw (known, e, h, u)
 
-    module _ (split : isUnknown ≡ false) where
+    module _ (split : is_unknown ≡ false) where
       pub months_short : (n : ℕ) → no_answer (length sections) (length tail) ≡ true → n ≡ short_refusal out.answer →
-          record { refusal = n; knots = knots; buffers = b; sections = sections; tail = tail } ≡ months_across (not_periods from to months) isUnknown knots b sections tail out
+          record { refusal = n; knots = knots; buffers = b; sections = sections; tail = tail } ≡ months_across (not_periods from to months) is_unknown knots b sections tail out
       months_short n a e = by holds refl
         where
-          by : (t : Bool) → holds ≡ t → record { refusal = n; knots = knots; buffers = b; sections = sections; tail = tail } ≡ months_across (not_periods from to months) isUnknown knots b sections tail out
+          by : (t : Bool) → holds ≡ t → record { refusal = n; knots = knots; buffers = b; sections = sections; tail = tail } ≡ months_across (not_periods from to months) is_unknown knots b sections tail out
           by true h = rw (known, e, h)
           by false h = rw (known, split, a, e, h)
 
       pub months_roomy : (o : Monthly) (n : ℕ) (s : List ℕ) (t : List Float) → no_answer (length sections) (length tail) ≡ false → o ≡ out →
           (n ≡ (curve_in_numbers o.answer).refusal) × ((s ≡ count_left o.answer sections) × (t ≡ tail_left o.answer tail)) →
-          record { refusal = n; knots = o.knots; buffers = o.buffers; sections = s; tail = t } ≡ months_across (not_periods from to months) isUnknown knots b sections tail out
+          record { refusal = n; knots = o.knots; buffers = o.buffers; sections = s; tail = t } ≡ months_across (not_periods from to months) is_unknown knots b sections tail out
       months_roomy o n s t a e (p, (q, r)) = by holds refl
         where
-          by : (t' : Bool) → holds ≡ t' → record { refusal = n; knots = o.knots; buffers = o.buffers; sections = s; tail = t } ≡ months_across (not_periods from to months) isUnknown knots b sections tail out
+          by : (t' : Bool) → holds ≡ t' → record { refusal = n; knots = o.knots; buffers = o.buffers; sections = s; tail = t } ≡ months_across (not_periods from to months) is_unknown knots b sections tail out
           by true h = rw (p, q, r, e, known, h)
           by false h = rw (p, q, r, e, known, split, a, h)
 

@@ -51,5 +51,5 @@ curve_across b sections tail o =
 
 -- A mode that is not known is refused first, by a number of our own, and no slice changes.
 abbrev pub in_mode : Bool → Buffers → List ℕ → List Float → Outcome Built → CurveAcross
-in_mode isUnknown b sections tail o =
-    cond isUnknown (record { refusal = number SplitUnknown; buffers = b; sections = sections; tail = tail }) (curve_across b sections tail o)
+in_mode is_unknown b sections tail o =
+    cond is_unknown (record { refusal = number SplitUnknown; buffers = b; sections = sections; tail = tail }) (curve_across b sections tail o)

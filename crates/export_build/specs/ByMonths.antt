@@ -60,9 +60,9 @@ across_months refusal knots nodes tags slots sections tail =
 
 -- 19 comes first, then 30, then build's order. With no room for a curve's own numbers 11 comes last, and no slice changes.
 abbrev pub months_across : Bool → Bool → List Float → Buffers → List ℕ → List Float → Monthly → MonthsAcross
-months_across noPeriods isUnknown knots b sections tail o =
+months_across no_periods is_unknown knots b sections tail o =
     let refused : ℕ → MonthsAcross = λ n. record { refusal = n; knots = knots; buffers = b; sections = sections; tail = tail } in
-    cond noPeriods (refused (number MonthsNotPeriods))
-    (cond isUnknown (refused (number SplitUnknown))
+    cond no_periods (refused (number MonthsNotPeriods))
+    (cond is_unknown (refused (number SplitUnknown))
     (cond (no_answer (length sections) (length tail)) (refused (short_refusal o.answer))
     (record { refusal = (curve_in_numbers o.answer).refusal; knots = o.knots; buffers = o.buffers; sections = count_left o.answer sections; tail = tail_left o.answer tail })))

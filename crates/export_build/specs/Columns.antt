@@ -28,7 +28,7 @@ column_across b sections tail column o =
 
 -- A mode that is not known is refused first, by a number of our own, and no slice changes.
 abbrev pub in_mode_column : Bool → Buffers → List ℕ → List Float → List Float → Columned → ColumnAcross
-in_mode_column isUnknown b sections tail column o =
-    cond isUnknown
+in_mode_column is_unknown b sections tail column o =
+    cond is_unknown
     (record { refusal = number SplitUnknown; buffers = b; sections = sections; tail = tail; column = column })
     (column_across b sections tail column o)

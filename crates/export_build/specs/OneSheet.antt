@@ -42,4 +42,4 @@ sheet_across b answer o =
 
 -- A mode that is not known is refused first, by a number of our own, and no slice changes.
 abbrev pub in_mode_sheet : Bool → Buffers → List Float → Outcome SheetBuilt → SheetAcross
-in_mode_sheet isUnknown b answer o = cond isUnknown (record { refusal = number SplitUnknown; buffers = b; answer = answer }) (sheet_across b answer o)
+in_mode_sheet is_unknown b answer o = cond is_unknown (record { refusal = number SplitUnknown; buffers = b; answer = answer }) (sheet_across b answer o)

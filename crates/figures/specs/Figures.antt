@@ -52,8 +52,8 @@ quarter = of_bits binary64 0x3fd0_0000_0000_0000
 abbrev three_quarters : Float
 three_quarters = of_bits binary64 0x3fe8_0000_0000_0000
 
-abbrev one_andAHalf : Float
-one_andAHalf = of_bits binary64 0x3ff8_0000_0000_0000
+abbrev one_and_a_half : Float
+one_and_a_half = of_bits binary64 0x3ff8_0000_0000_0000
 
 abbrev seven : Float
 seven = of_bits binary64 0x401c_0000_0000_0000
@@ -164,7 +164,7 @@ table =
     ∷ row 2 (get_or (tags_of x2 y2 m2) 0 0) 0x2000
     ∷ row 2 (get_or (tags_of x2 y2 m2) 1 0) 0x2000
     ∷ row 2 (bits (value_at x2 y2 m2 false half).answer) 0x3fec_0000_0000_0000
-    ∷ row 2 (bits (value_at x2 y2 m2 false one_andAHalf).answer) 0x4009_0000_0000_0000
+    ∷ row 2 (bits (value_at x2 y2 m2 false one_and_a_half).answer) 0x4009_0000_0000_0000
     ∷ row 2 (bits (in_numbers x2 y2 m2).tail.value) 0x400c_0000_0000_0000
     ∷ row 2 (bits (in_numbers x2 y2 m2).tail.total) 0x4010_0000_0000_0000
     ∷ row 2 (bits (in_numbers x2 y2 m2).tail.from) 0x4000_0000_0000_0000

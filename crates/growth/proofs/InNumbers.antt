@@ -80,10 +80,10 @@ by_seam : (x y : List Float) (method : ConvexMonotone) (hold : Bool) (b : Buffer
 by_seam x y method hold b (carried.Seam s) = built_number x y method hold s b
 by_seam x y method hold b (carried.Refused r) = refl
 
-pub grow_in_numbers : Follows grow.Post (λ κ a r s. let (xs, (ys, (method, (localisation, (_, (before, (oldTags, (oldSlots, (nodes, (tags, (slots, _))))))))))) = a in (curve_in_numbers r).refusal ≡ verdict_number (and_then (first (carry_tests (length xs.now) localisation before oldTags.now oldSlots.now)) (build_verdict xs.now ys.now method (seam_in (carried_at (length xs.now) localisation before oldTags.now oldSlots.now)) (buffers nodes.now tags.now slots.now))))
-grow_in_numbers κ (xs, (ys, (method, (localisation, (final, (before, (oldTags, (oldSlots, (nodes, (tags, (slots, _))))))))))) r s p =
+pub grow_in_numbers : Follows grow.Post (λ κ a r s. let (xs, (ys, (method, (localisation, (_, (before, (old_tags, (old_slots, (nodes, (tags, (slots, _))))))))))) = a in (curve_in_numbers r).refusal ≡ verdict_number (and_then (first (carry_tests (length xs.now) localisation before old_tags.now old_slots.now)) (build_verdict xs.now ys.now method (seam_in (carried_at (length xs.now) localisation before old_tags.now old_slots.now)) (buffers nodes.now tags.now slots.now))))
+grow_in_numbers κ (xs, (ys, (method, (localisation, (final, (before, (old_tags, (old_slots, (nodes, (tags, (slots, _))))))))))) r s p =
     let b = buffers nodes.now tags.now slots.now in
-    let k = carried_at (length xs.now) localisation before oldTags.now oldSlots.now in
+    let k = carried_at (length xs.now) localisation before old_tags.now old_slots.now in
     ap (λ (o : Outcome Built). (curve_in_numbers o.answer).refusal) p
     ∙ by_seam xs.now ys.now method (holds (length xs.now) final) b k
-    ∙ ap (λ (v : Verdict). verdict_number (and_then v (build_verdict xs.now ys.now method (seam_in k) b))) (carries (length xs.now) localisation before oldTags.now oldSlots.now)
+    ∙ ap (λ (v : Verdict). verdict_number (and_then v (build_verdict xs.now ys.now method (seam_in k) b))) (carries (length xs.now) localisation before old_tags.now old_slots.now)

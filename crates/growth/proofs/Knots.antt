@@ -29,12 +29,12 @@ by_seam x y method hold b (carried.Seam s) o c e f = answered_knots x y method h
 by_seam x y method hold b (carried.Refused r) o c e f = never (ap is_curve f) (ap (λ (p : Outcome Built). is_curve p.answer) e)
 
 pub grow_knots : Follows grow.Post (λ κ a r s.
-    let (xs, (ys, (method, (localisation, (final, (before, (oldTags, (oldSlots, _)))))))) = a in
-    let (_, (_, (_, (_, (_, (_, (_, (_, (nodesLeft, (tagsLeft, (slotsLeft, _))))))))))) = s in
-    let carry = carried_at (length xs.now) localisation before oldTags.now oldSlots.now in
-    (c : Curve) → r ≡ built.Curve c → KnotsIn xs.now ys.now method (holds (length xs.now) final) (seam_in carry) (buffers nodesLeft.now tagsLeft.now slotsLeft.now))
-grow_knots κ (xs, (ys, (method, (localisation, (final, (before, (oldTags, (oldSlots, (nodes, (tags, (slots, _))))))))))) r (_, (_, (_, (_, (_, (_, (_, (_, (nodesLeft, (tagsLeft, (slotsLeft, _))))))))))) p c f =
+    let (xs, (ys, (method, (localisation, (final, (before, (old_tags, (old_slots, _)))))))) = a in
+    let (_, (_, (_, (_, (_, (_, (_, (_, (nodes_left, (tags_left, (slots_left, _))))))))))) = s in
+    let carry = carried_at (length xs.now) localisation before old_tags.now old_slots.now in
+    (c : Curve) → r ≡ built.Curve c → KnotsIn xs.now ys.now method (holds (length xs.now) final) (seam_in carry) (buffers nodes_left.now tags_left.now slots_left.now))
+grow_knots κ (xs, (ys, (method, (localisation, (final, (before, (old_tags, (old_slots, (nodes, (tags, (slots, _))))))))))) r (_, (_, (_, (_, (_, (_, (_, (_, (nodes_left, (tags_left, (slots_left, _))))))))))) p c f =
     by_seam xs.now ys.now method (holds (length xs.now) final) (buffers nodes.now tags.now slots.now)
-    (carried_at (length xs.now) localisation before oldTags.now oldSlots.now)
-    (outcome r nodesLeft.now tagsLeft.now slotsLeft.now)
+    (carried_at (length xs.now) localisation before old_tags.now old_slots.now)
+    (outcome r nodes_left.now tags_left.now slots_left.now)
     c p f

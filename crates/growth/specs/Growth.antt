@@ -90,5 +90,5 @@ grown (carried.Refused r) old build = record { answer = built.Refused r; buffers
 
 -- what `grow` answers, and the buffers as it leaves them
 abbrev pub grow_outcome : List Float → List Float → ConvexMonotone → ℕ → ℕ → Previous → List ℕ → List Float → Buffers → Outcome Built
-grow_outcome x y method localisation final p oldTags oldSlots b =
-    grown (carried_at (length x) localisation p oldTags oldSlots) b (λ s. build_outcome x y method (holds (length x) final) s b)
+grow_outcome x y method localisation final p old_tags old_slots b =
+    grown (carried_at (length x) localisation p old_tags old_slots) b (λ s. build_outcome x y method (holds (length x) final) s b)

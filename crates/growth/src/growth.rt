@@ -13,14 +13,14 @@ use table::ends::Seam;
 use table::method::ConvexMonotone;
 
 // The curve that a table grows from. Its tags and slots are lent beside it.
-#[derive(Drop)]
+#[derive(Clone, Copy)]
 pub enum Previous {
     Absent,
     Curve(Curve),
 }
 
 // What a growing curve carries over, or why it can't.
-#[derive(Drop)]
+#[derive(Clone, Copy)]
 pub enum Carried {
     Seam(Seam),
     Refused(Refusal),

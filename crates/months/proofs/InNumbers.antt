@@ -52,7 +52,7 @@ pub build_months_in_numbers : Follows build-months.Post (λ κ a r s.
     let (from, (to, (size, (ys, (method, (hold, (seam, (knots, (nodes, (tags, (slots, _))))))))))) = a in
     (curve_in_numbers r).refusal ≡ verdict_number (months_verdict from to size ys.now method seam (length knots.now) (length nodes.now) (length tags.now) (length slots.now)))
 unfolding curve_of
-build_months_in_numbers κ (from, (to, (size, (ys, (method, (hold, (seam, (knots, (nodes, (tags, (slots, _))))))))))) r (_, (_, (_, (_, (_, (_, (_, (knots_left, (nodesLeft, (tagsLeft, (slotsLeft, _))))))))))) e =
+build_months_in_numbers κ (from, (to, (size, (ys, (method, (hold, (seam, (knots, (nodes, (tags, (slots, _))))))))))) r (_, (_, (_, (_, (_, (_, (_, (knots_left, (nodes_left, (tags_left, (slots_left, _))))))))))) e =
     let b = buffers nodes.now tags.now slots.now in
     let v = months_verdict from to size ys.now method seam (length knots.now) (length nodes.now) (length tags.now) (length slots.now) in
     ap (λ (o : Monthly). (curve_in_numbers o.answer).refusal) e

@@ -145,7 +145,7 @@ pub build_not_for_knots : Follows build.Post (λ κ a r s.
     let (xs, _) = a in
     GoodKnots xs.now → (e : Refusal) → r ≡ built.Refused e → of_knots e ≡ false)
 unfolding curve_of
-build_not_for_knots κ (xs, (ys, (method, (hold, (seam, (nodes, (tags, (slots, _)))))))) r (_, (_, (_, (_, (_, (nodesLeft, (tagsLeft, (slotsLeft, _)))))))) post g e f =
+build_not_for_knots κ (xs, (ys, (method, (hold, (seam, (nodes, (tags, (slots, _)))))))) r (_, (_, (_, (_, (_, (nodes_left, (tags_left, (slots_left, _)))))))) post g e f =
     let b = buffers nodes.now tags.now slots.now in
     not_for_knots xs.now ys.now method seam (length nodes.now) (length tags.now) (length slots.now) g e
-    (outcomes.was_refused verdict_in (build_verdict xs.now ys.now method seam b) built.Refused (λ r. refl) b _ refl (outcome r nodesLeft.now tagsLeft.now slotsLeft.now) e post f)
+    (outcomes.was_refused verdict_in (build_verdict xs.now ys.now method seam b) built.Refused (λ r. refl) b _ refl (outcome r nodes_left.now tags_left.now slots_left.now) e post f)

@@ -128,8 +128,8 @@ module _ (from to : ℤ) (size : Size) (y : List Float) (method : ConvexMonotone
 
 pub build_months_same : Follows build-months.Post (λ κ a r s.
     let (from, (to, (size, (ys, (method, (hold, (seam, (knots, (nodes, (tags, (slots, _))))))))))) = a in
-    let (_, (_, (_, (_, (_, (_, (_, (knots_left, (nodesLeft, (tagsLeft, (slotsLeft, _))))))))))) = s in
-    SameBuild from to size ys.now method hold seam knots.now (buffers nodes.now tags.now slots.now) (monthly r knots_left.now nodesLeft.now tagsLeft.now slotsLeft.now))
-build_months_same κ (from, (to, (size, (ys, (method, (hold, (seam, (knots, (nodes, (tags, (slots, _))))))))))) r (_, (_, (_, (_, (_, (_, (_, (knots_left, (nodesLeft, (tagsLeft, (slotsLeft, _))))))))))) e =
+    let (_, (_, (_, (_, (_, (_, (_, (knots_left, (nodes_left, (tags_left, (slots_left, _))))))))))) = s in
+    SameBuild from to size ys.now method hold seam knots.now (buffers nodes.now tags.now slots.now) (monthly r knots_left.now nodes_left.now tags_left.now slots_left.now))
+build_months_same κ (from, (to, (size, (ys, (method, (hold, (seam, (knots, (nodes, (tags, (slots, _))))))))))) r (_, (_, (_, (_, (_, (_, (_, (knots_left, (nodes_left, (tags_left, (slots_left, _))))))))))) e =
     subst (SameBuild from to size ys.now method hold seam knots.now (buffers nodes.now tags.now slots.now)) (sym e)
     (same_build from to size ys.now method hold seam knots.now (buffers nodes.now tags.now slots.now))

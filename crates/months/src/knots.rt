@@ -10,7 +10,7 @@ use crate::periods::{Ordered, Periods, Size, periods_of};
 use refusal::Refusal;
 
 // What is answered to an order of knots: how many there are.
-#[derive(Drop)]
+#[derive(Clone, Copy)]
 pub enum MonthKnots {
     Made(usize),
     Refused(Refusal),

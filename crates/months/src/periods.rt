@@ -5,7 +5,7 @@ ghost use Rattle.months.specs.Periods.{months_in, place_of, are_periods, periods
 use refusal::Refusal;
 
 // How long a period is.
-#[derive(Drop)]
+#[derive(Clone, Copy)]
 pub enum Size {
     Month,
     Quarter,
@@ -25,7 +25,7 @@ impl Size {
 }
 
 // Periods that follow one another: the first month, the months of a period, and how many knots bound the periods.
-#[derive(Drop)]
+#[derive(Clone, Copy)]
 pub struct Periods {
     pub first: usize,
     pub months: usize,
@@ -33,7 +33,7 @@ pub struct Periods {
 }
 
 // What an order by months asks for.
-#[derive(Drop)]
+#[derive(Clone, Copy)]
 pub enum Ordered {
     Whole(Periods),
     Refused(Refusal),

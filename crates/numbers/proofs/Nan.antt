@@ -16,14 +16,14 @@ pattern_nan b h = nan_bits_above binary64 b ∙ lt-ltb (2047 * 2 ^ 52) (b % 2 ^ 
 pub pattern_number : (b : ℕ) → b % 2 ^ 63 ≤ 2047 * 2 ^ 52 → nan_bits binary64 b ≡ false
 pattern_number b h = nan_bits_above binary64 b ∙ le-ltb (2047 * 2 ^ 52) (b % 2 ^ 63) h
 
-pub is_nan : (x : Float) → is_nan x ≡ true → nan ≡ x
+pub is_nan_lem : (x : Float) → is_nan x ≡ true → nan ≡ x
 unfolding is_nan
-is_nan nan h = refl
-is_nan (inf s) h = never h refl
-is_nan (fin s m e) h = never h refl
+is_nan_lem nan h = refl
+is_nan_lem (inf s) h = never h refl
+is_nan_lem (fin s m e) h = never h refl
 
 pub read_as_nan : (b : ℕ) → 2047 * 2 ^ 52 < b % 2 ^ 63 → nan ≡ of_bits binary64 b
-read_as_nan b h = is_nan (of_bits binary64 b) (sym (nan_bits_is binary64 b) ∙ pattern_nan b h)
+read_as_nan b h = is_nan_lem (of_bits binary64 b) (sym (nan_bits_is binary64 b) ∙ pattern_nan b h)
 
 -- a number that equals itself is no NaN
 pub same_number : (x : Float) → ne x x ≡ false → T (not (is_nan x))

@@ -1,5 +1,7 @@
 // What every layer needs: of floats a test for finiteness, a mark for it, tests of their size, the absolute value and the way to their bits and back; and
 // how many numbers a section and a record have.
+#![tactic(auto)]
+
 ghost use Rattle.std.specs.Prelude.{◌≡◌};
 ghost use Rattle.std.specs.Float.{binary64};
 ghost use Rattle.std.specs.Float.Ieee.{of_bits, to_bits};
@@ -28,7 +30,7 @@ pub fn is_finite(x: f64) -> bool
 }
 
 // A number with the mark whether it is finite. Its bits are what the formula gave, so that what is stored of it stays the same.
-#[derive(Drop)]
+#[derive(Clone, Copy)]
 pub struct Marked {
     pub number: f64,
     pub finite: bool,

@@ -23,7 +23,7 @@ const LONGEST: usize = 2506;
 const ROOM: usize = 200 * SLOTS;
 
 // What answering returns: how long the text is, or that the buffer could not hold the longest.
-#[derive(Drop)]
+#[derive(Clone, Copy)]
 pub enum OrderAnswer {
     Text(usize),
     TooShort,

@@ -7,7 +7,7 @@ use query::single::{primitive, value};
 use refusal::{Refusal, Verdict};
 
 // A query's refusal, or 0, and the bits of its two numbers, which are 0 where it is refused.
-#[derive(Drop)]
+#[derive(Clone, Copy)]
 pub(crate) struct Line {
     pub refusal: u64,
     pub value: u64,

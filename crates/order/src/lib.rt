@@ -1,4 +1,6 @@
 // The order form's other side: an order's bytes go in, and the answer's text comes out.
+#![tactic(auto)]
+
 pub mod answer;
 mod asking;
 mod form;

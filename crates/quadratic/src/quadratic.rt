@@ -4,7 +4,7 @@ ghost use Rattle.quadratic.specs.Quadratic.{new, value, primitive, f_next};
 
 use crate::parabola::{a_of, b_of, under};
 
-#[derive(Drop)]
+#[derive(Clone, Copy)]
 pub struct Quadratic {
     pub x_prev: f64,
     pub x_scaling: f64,

@@ -8,7 +8,7 @@ ghost use Rattle.quadratic.specs.QuadraticMin.{new, value, primitive, f_next, b_
 use crate::parabola::{a_of, b_of, under};
 use numbers::NARROW;
 
-#[derive(Drop)]
+#[derive(Clone, Copy)]
 pub struct QuadraticMin {
     pub split_region: bool,
     pub x1: f64,

@@ -40,10 +40,10 @@ either_found true s t f e = refl
 either_found false s t f e = e
 
 -- an accepted table passes what a query asks of it, if the buffers keep their lengths
-pub query_accepted : (x y : List Float) (method : ConvexMonotone) (nodes tags slots newTags newSlots : ℕ) (curve : Curve) (q : Float) →
-    Sound x y method → Room (length x) nodes tags slots → newTags ≡ tags → newSlots ≡ slots →
-    ne q q ≡ false → outside x curve q ≡ false → first (query_tests x curve newTags newSlots q) ≡ verdict.Accepted
-query_accepted x y method nodes tags slots newTags newSlots curve q s r e f number inside =
+pub query_accepted : (x y : List Float) (method : ConvexMonotone) (nodes tags slots new_tags new_slots : ℕ) (curve : Curve) (q : Float) →
+    Sound x y method → Room (length x) nodes tags slots → new_tags ≡ tags → new_slots ≡ slots →
+    ne q q ≡ false → outside x curve q ≡ false → first (query_tests x curve new_tags new_slots q) ≡ verdict.Accepted
+query_accepted x y method nodes tags slots new_tags new_slots curve q s r e f number inside =
     let n = length x in
     rw (
       le-ltb n 2 s.low,

@@ -19,7 +19,7 @@ use Rattle.query.specs.declared.answer.QueryAnswer.TheVariants as query-answer
 
 -- What was totalled up to b and not up to a, over the length: the refusals of a's query come first, then those of b's, then 18.
 abbrev pub strip_of : Float → Float → QueryAnswer → QueryAnswer → QueryAnswer
-strip_of a b (query-answer.Refused r) upToB = query-answer.Refused r
+strip_of a b (query-answer.Refused r) up_to_b = query-answer.Refused r
 strip_of a b (query-answer.Number p) (query-answer.Refused r) = query-answer.Refused r
 strip_of a b (query-answer.Number p) (query-answer.Number q) =
     cond (lt a b) (query-answer.Number (mark ((q.number ⊖ p.number) ⊘ (b ⊖ a)))) (query-answer.Refused StripEndsNotRising)

@@ -13,28 +13,28 @@ use section::section::Section;
 use table::check::knots_of;
 
 // The section that answers a query, or why there is none. Only the definitions speak of it: the code goes from the slots of a record straight to the number.
-#[derive(Drop)]
+#[derive(Clone, Copy)]
 pub enum Covered {
     Section(Section),
     Refused(Refusal),
 }
 
 // What a query answers: a number with the mark whether it is finite, or the first refusal of those that come before that.
-#[derive(Drop)]
+#[derive(Clone, Copy)]
 pub enum QueryAnswer {
     Number(Marked),
     Refused(Refusal),
 }
 
 // The same in numbers: the refusal's, or 0, and the answer, which is +0.0 where it is refused. A number that is not finite is refused here.
-#[derive(Drop)]
+#[derive(Clone, Copy)]
 pub struct AnswerInNumbers {
     pub refusal: u8,
     pub answer: f64,
 }
 
 // What many queries are answered: every number, or none, for a fault of all or for the first query that is refused, counted from 0.
-#[derive(Drop)]
+#[derive(Clone, Copy)]
 pub enum ManyAnswer {
     Answered,
     Refused(Refusal),
@@ -43,7 +43,7 @@ pub enum ManyAnswer {
 
 // The same in numbers: the refusal's, or 0, and which query was refused first, or how many there are where none was.
 #[repr(C)]
-#[derive(Drop)]
+#[derive(Clone, Copy)]
 pub struct ManyInNumbers {
     pub refusal: u8,
     pub query: usize,

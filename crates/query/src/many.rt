@@ -25,7 +25,7 @@ use refusal::{Refusal, Verdict};
 const BLOCK: usize = 64;
 
 // What the section that covers a query answers, and the place where it was found.
-#[derive(Drop)]
+#[derive(Clone, Copy)]
 pub(crate) struct Near {
     pub answer: Answer,
     pub place: usize,
@@ -58,7 +58,7 @@ pub(crate) fn number_near(
 }
 
 // What a query is answered, and the place where its section was found.
-#[derive(Drop)]
+#[derive(Clone, Copy)]
 pub(crate) struct Looked {
     pub answer: QueryAnswer,
     pub place: usize,

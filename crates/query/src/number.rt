@@ -14,7 +14,7 @@ use refusal::Refusal;
 use section::everywhere_constant::EverywhereConstant;
 
 // What is asked at a point.
-#[derive(Drop)]
+#[derive(Clone, Copy)]
 pub(crate) enum Wanted {
     Price,
     Total,

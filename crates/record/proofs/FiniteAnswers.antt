@@ -15,8 +15,8 @@ use Rattle.numbers.proofs.Bounds.{Within, Low, difference_within}
 use Rattle.numbers.proofs.Ratios.{one_within}
 use Rattle.numbers.proofs.Ordinary.{size_within, divisor_low}
 use Rattle.convex.proofs.Ordinary.{Fourth}
-use Rattle.convex.proofs.Ordinary as convexLaws
-use Rattle.quadratic.proofs.Ordinary as quadraticLaws
+use Rattle.convex.proofs.Ordinary as convex_laws
+use Rattle.quadratic.proofs.Ordinary as quadratic_laws
 use Rattle.section.proofs.Ordinary.{Constant, Gradient, OrdinaryQuadratic, OrdinaryConvex, Ordinary, section_value, section_primitive}
 use Rattle.section.specs.Section.{value, primitive}
 use Rattle.section.specs.declared.quadratic_part.QuadraticPart.TheVariants as quadratic
@@ -26,28 +26,28 @@ use Rattle.record.specs.Tag.{quadratic_named, other_named}
 use Rattle.record.specs.Reading.{slot, fourth_in, quadratic_from, other_from, joined, read_section}
 use Rattle.record.specs.Ordinary.{ordinary_quadratic, ordinary_fourth, ordinary_other, ordinary_slots, ordinary_record}
 use Rattle.record.specs.declared.tag.QuadraticKind.{QuadraticKind}
-use Rattle.record.specs.declared.tag.QuadraticKind.TheVariants as quadraticKind
+use Rattle.record.specs.declared.tag.QuadraticKind.TheVariants as quadratic_kind
 use Rattle.record.specs.declared.tag.OtherKind.{OtherKind}
-use Rattle.record.specs.declared.tag.OtherKind.TheVariants as otherKind
+use Rattle.record.specs.declared.tag.OtherKind.TheVariants as other_kind
 use Rattle.record.specs.declared.reading.QuadraticFound.{QuadraticFound}
-use Rattle.record.specs.declared.reading.QuadraticFound.TheVariants as maybeQuadratic
+use Rattle.record.specs.declared.reading.QuadraticFound.TheVariants as maybe_quadratic
 use Rattle.record.specs.declared.reading.OtherFound.{OtherFound}
-use Rattle.record.specs.declared.reading.OtherFound.TheVariants as maybeOther
+use Rattle.record.specs.declared.reading.OtherFound.TheVariants as maybe_other
 use Rattle.record.specs.declared.reading.Found.{Found}
 use Rattle.record.specs.declared.reading.Found.TheVariants as found
 
 -- what was read is of ordinary size, where something was
 abbrev QuadraticRead : QuadraticFound → Type 0
-QuadraticRead maybeQuadratic.Absent = Unit {0}
-QuadraticRead (maybeQuadratic.Part p) = OrdinaryQuadratic p
-QuadraticRead maybeQuadratic.Unknown = Unit {0}
+QuadraticRead maybe_quadratic.Absent = Unit {0}
+QuadraticRead (maybe_quadratic.Part p) = OrdinaryQuadratic p
+QuadraticRead maybe_quadratic.Unknown = Unit {0}
 
 abbrev OtherRead : OtherFound → Type 0
-OtherRead maybeOther.Absent = Unit {0}
-OtherRead (maybeOther.Constant s) = Constant s
-OtherRead (maybeOther.Gradient s) = Gradient s
-OtherRead (maybeOther.Convex c) = OrdinaryConvex c
-OtherRead maybeOther.Unknown = Unit {0}
+OtherRead maybe_other.Absent = Unit {0}
+OtherRead (maybe_other.Constant s) = Constant s
+OtherRead (maybe_other.Gradient s) = Gradient s
+OtherRead (maybe_other.Convex c) = OrdinaryConvex c
+OtherRead maybe_other.Unknown = Unit {0}
 
 abbrev Read : Found → Type 0
 Read (found.Section k) = Ordinary k
@@ -58,10 +58,10 @@ module _ (s : List Float) (sizes : ordinary_slots s ≡ true) where
   at i h = size_within (slot s i) (all_at field_count _ sizes i (ltb→lt i field_count h))
 
   -- ---- the quadratic part
-  plain_fields : quadraticLaws.Fields (slot s 1) (slot s 2) (slot s 3) (slot s 4) (slot s 5) (slot s 7)
+  plain_fields : quadratic_laws.Fields (slot s 1) (slot s 2) (slot s 3) (slot s 4) (slot s 5) (slot s 7)
   plain_fields = record { start = at 1 tt; length = at 2 tt; square = at 3 tt; slope = at 4 tt; height = at 5 tt; total = at 7 tt }
 
-  min_fields : quadraticLaws.Fields (slot s 1) (slot s 11) (slot s 5) (slot s 6) (slot s 7) (slot s 8)
+  min_fields : quadratic_laws.Fields (slot s 1) (slot s 11) (slot s 5) (slot s 6) (slot s 7) (slot s 8)
   min_fields = record { start = at 1 tt; length = at 11 tt; square = at 5 tt; slope = at 6 tt; height = at 7 tt; total = at 8 tt }
 
   min_length : ordinary_divisor (slot s 4 ⊖ slot s 1) ≡ true → Low 40 (slot s 4 ⊖ slot s 1)
@@ -69,16 +69,16 @@ module _ (s : List Float) (sizes : ordinary_slots s ≡ true) where
 
   quadratic_read : (kind : QuadraticKind) → ordinary_quadratic kind s ≡ true → QuadraticRead (quadratic_from kind s)
   unfolding quadratic_from
-  quadratic_read quadraticKind.Absent h = tt
-  quadratic_read quadraticKind.Quadratic h = record { fields = plain_fields; length_low = divisor_low (slot s 2) (at 2 tt) h }
-  quadratic_read quadraticKind.QuadraticMin h = record { fields = min_fields; stretch = at 9 tt; length_low = min_length h; ratio_low = λ split. never split refl }
-  quadratic_read quadraticKind.QuadraticMinSplit h =
+  quadratic_read quadratic_kind.Absent h = tt
+  quadratic_read quadratic_kind.Quadratic h = record { fields = plain_fields; length_low = divisor_low (slot s 2) (at 2 tt) h }
+  quadratic_read quadratic_kind.QuadraticMin h = record { fields = min_fields; stretch = at 9 tt; length_low = min_length h; ratio_low = λ split. never split refl }
+  quadratic_read quadratic_kind.QuadraticMinSplit h =
       let p = and_split (ordinary_divisor (slot s 4 ⊖ slot s 1)) (ordinary_divisor (slot s 12)) h in
       record { fields = min_fields; stretch = at 9 tt; length_low = min_length p.0; ratio_low = λ split. divisor_low (slot s 12) (at 12 tt) p.1 }
-  quadratic_read quadraticKind.Unknown h = tt
+  quadratic_read quadratic_kind.Unknown h = tt
 
   -- ---- the other part
-  convex_fields : ordinary_divisor (slot s 14) ≡ true → convexLaws.Fields (slot s 13) (slot s 14) (slot s 15) (slot s 16) (slot s 17) (slot s 18) (slot s 19)
+  convex_fields : ordinary_divisor (slot s 14) ≡ true → convex_laws.Fields (slot s 13) (slot s 14) (slot s 15) (slot s 16) (slot s 17) (slot s 18) (slot s 19)
   convex_fields h = record {
     start = at 13 tt;
     length = at 14 tt;
@@ -104,40 +104,40 @@ module _ (s : List Float) (sizes : ordinary_slots s ≡ true) where
 
   other_read : (kind : OtherKind) → ordinary_other kind s ≡ true → OtherRead (other_from kind s)
   unfolding other_from
-  other_read otherKind.Absent h = tt
-  other_read otherKind.EverywhereConstant h = record { held = at 13 tt; total = at 14 tt; start = at 15 tt }
-  other_read otherKind.ConstantGrad h = record { height = at 13 tt; total = at 14 tt; start = at 15 tt; slope = at 16 tt }
-  other_read otherKind.ConvexMonotone2 h =
+  other_read other_kind.Absent h = tt
+  other_read other_kind.EverywhereConstant h = record { held = at 13 tt; total = at 14 tt; start = at 15 tt }
+  other_read other_kind.ConstantGrad h = record { height = at 13 tt; total = at 14 tt; start = at 15 tt; slope = at 16 tt }
+  other_read other_kind.ConvexMonotone2 h =
       let p = and_split (ordinary_divisor (slot s 14)) (ordinary_divisor (one ⊖ slot s 18)) h in
       record { fields = convex_fields p.0; rest_low = rest_low p.1 }
-  other_read otherKind.ConvexMonotone3 h =
+  other_read other_kind.ConvexMonotone3 h =
       let p = and_split (ordinary_divisor (slot s 14)) (ordinary_divisor (slot s 18)) h in
       record { fields = convex_fields p.0; eta_low = eta_low p.1 }
-  other_read otherKind.ConvexMonotone4 h = fourth_read h
-  other_read otherKind.ConvexMonotone4Min h = record { base = fourth_read h; ratio = at 21 tt; ratio_low = λ split. never split refl }
-  other_read otherKind.ConvexMonotone4MinSplit h =
+  other_read other_kind.ConvexMonotone4 h = fourth_read h
+  other_read other_kind.ConvexMonotone4Min h = record { base = fourth_read h; ratio = at 21 tt; ratio_low = λ split. never split refl }
+  other_read other_kind.ConvexMonotone4MinSplit h =
       let p = and_split (ordinary_fourth s) (ordinary_divisor (slot s 21)) h in
       record { base = fourth_read p.0; ratio = at 21 tt; ratio_low = λ split. divisor_low (slot s 21) (at 21 tt) p.1 }
-  other_read otherKind.Unknown h = tt
+  other_read other_kind.Unknown h = tt
 
 -- ---- both as one section
 joined_read : {w : Float} → Within 80 w → (p : QuadraticFound) (o : OtherFound) → QuadraticRead p → OtherRead o → Read (joined w p o)
 unfolding joined
-joined_read ww maybeQuadratic.Unknown o q r = tt
-joined_read ww maybeQuadratic.Absent maybeOther.Absent q r = tt
-joined_read ww maybeQuadratic.Absent maybeOther.Unknown q r = tt
-joined_read ww maybeQuadratic.Absent (maybeOther.Constant s) q r = r
-joined_read ww maybeQuadratic.Absent (maybeOther.Gradient s) q r = r
-joined_read ww maybeQuadratic.Absent (maybeOther.Convex (convex.ConvexMonotone2 c)) q r = r
-joined_read ww maybeQuadratic.Absent (maybeOther.Convex (convex.ConvexMonotone3 c)) q r = r
-joined_read ww maybeQuadratic.Absent (maybeOther.Convex (convex.ConvexMonotone4 c)) q r = r
-joined_read ww maybeQuadratic.Absent (maybeOther.Convex (convex.ConvexMonotone4Min c)) q r = r
-joined_read ww (maybeQuadratic.Part (quadratic.Quadratic p)) maybeOther.Absent q r = q
-joined_read ww (maybeQuadratic.Part (quadratic.QuadraticMin p)) maybeOther.Absent q r = q
-joined_read ww (maybeQuadratic.Part p) maybeOther.Unknown q r = tt
-joined_read ww (maybeQuadratic.Part p) (maybeOther.Constant s) q r = tt
-joined_read ww (maybeQuadratic.Part p) (maybeOther.Gradient s) q r = tt
-joined_read ww (maybeQuadratic.Part p) (maybeOther.Convex c) q r = record { weight = ww; quadratic = q; convex = r }
+joined_read ww maybe_quadratic.Unknown o q r = tt
+joined_read ww maybe_quadratic.Absent maybe_other.Absent q r = tt
+joined_read ww maybe_quadratic.Absent maybe_other.Unknown q r = tt
+joined_read ww maybe_quadratic.Absent (maybe_other.Constant s) q r = r
+joined_read ww maybe_quadratic.Absent (maybe_other.Gradient s) q r = r
+joined_read ww maybe_quadratic.Absent (maybe_other.Convex (convex.ConvexMonotone2 c)) q r = r
+joined_read ww maybe_quadratic.Absent (maybe_other.Convex (convex.ConvexMonotone3 c)) q r = r
+joined_read ww maybe_quadratic.Absent (maybe_other.Convex (convex.ConvexMonotone4 c)) q r = r
+joined_read ww maybe_quadratic.Absent (maybe_other.Convex (convex.ConvexMonotone4Min c)) q r = r
+joined_read ww (maybe_quadratic.Part (quadratic.Quadratic p)) maybe_other.Absent q r = q
+joined_read ww (maybe_quadratic.Part (quadratic.QuadraticMin p)) maybe_other.Absent q r = q
+joined_read ww (maybe_quadratic.Part p) maybe_other.Unknown q r = tt
+joined_read ww (maybe_quadratic.Part p) (maybe_other.Constant s) q r = tt
+joined_read ww (maybe_quadratic.Part p) (maybe_other.Gradient s) q r = tt
+joined_read ww (maybe_quadratic.Part p) (maybe_other.Convex c) q r = record { weight = ww; quadratic = q; convex = r }
 
 module _ (tag : ℕ) (s : List Float) where
   record_read : ordinary_record tag s ≡ true → Read (read_section tag s)

@@ -17,47 +17,47 @@ use Rattle.record.specs.Tag.{other_bits, other_kinds, quadratic_named, other_nam
 use Rattle.record.specs.Legal.{alone, beside, pairs, legal, legal_record}
 use Rattle.record.specs.Reading.{quadratic_in, quadratic_min_in, quadratic_from, other_from, joined, read_section, is_section}
 use Rattle.record.specs.declared.tag.QuadraticKind.{QuadraticKind}
-use Rattle.record.specs.declared.tag.QuadraticKind.TheVariants as quadraticKind
+use Rattle.record.specs.declared.tag.QuadraticKind.TheVariants as quadratic_kind
 use Rattle.record.specs.declared.tag.OtherKind.{OtherKind}
-use Rattle.record.specs.declared.tag.OtherKind.TheVariants as otherKind
-use Rattle.record.specs.declared.reading.QuadraticFound.TheVariants as maybeQuadratic
+use Rattle.record.specs.declared.tag.OtherKind.TheVariants as other_kind
+use Rattle.record.specs.declared.reading.QuadraticFound.TheVariants as maybe_quadratic
 use Rattle.record.specs.declared.reading.Found.{Found}
 use Rattle.record.specs.declared.reading.Found.TheVariants as found
 use Rattle.record.proofs.Named.{none_with}
 
 -- two parts make a section where their kinds do, whatever their numbers are
 module _ (w : Float) (s : List Float) where
-  alone_joined : (o : OtherKind) → is_section (joined w maybeQuadratic.Absent (other_from o s)) ≡ alone o
+  alone_joined : (o : OtherKind) → is_section (joined w maybe_quadratic.Absent (other_from o s)) ≡ alone o
   unfolding joined other_from
-  alone_joined otherKind.Absent = refl
-  alone_joined otherKind.EverywhereConstant = refl
-  alone_joined otherKind.ConstantGrad = refl
-  alone_joined otherKind.ConvexMonotone2 = refl
-  alone_joined otherKind.ConvexMonotone3 = refl
-  alone_joined otherKind.ConvexMonotone4 = refl
-  alone_joined otherKind.ConvexMonotone4Min = refl
-  alone_joined otherKind.ConvexMonotone4MinSplit = refl
-  alone_joined otherKind.Unknown = refl
+  alone_joined other_kind.Absent = refl
+  alone_joined other_kind.EverywhereConstant = refl
+  alone_joined other_kind.ConstantGrad = refl
+  alone_joined other_kind.ConvexMonotone2 = refl
+  alone_joined other_kind.ConvexMonotone3 = refl
+  alone_joined other_kind.ConvexMonotone4 = refl
+  alone_joined other_kind.ConvexMonotone4Min = refl
+  alone_joined other_kind.ConvexMonotone4MinSplit = refl
+  alone_joined other_kind.Unknown = refl
 
-  beside_joined : (p : QuadraticPart) (o : OtherKind) → is_section (joined w (maybeQuadratic.Part p) (other_from o s)) ≡ beside o
+  beside_joined : (p : QuadraticPart) (o : OtherKind) → is_section (joined w (maybe_quadratic.Part p) (other_from o s)) ≡ beside o
   unfolding joined other_from
-  beside_joined p otherKind.Absent = refl
-  beside_joined p otherKind.EverywhereConstant = refl
-  beside_joined p otherKind.ConstantGrad = refl
-  beside_joined p otherKind.ConvexMonotone2 = refl
-  beside_joined p otherKind.ConvexMonotone3 = refl
-  beside_joined p otherKind.ConvexMonotone4 = refl
-  beside_joined p otherKind.ConvexMonotone4Min = refl
-  beside_joined p otherKind.ConvexMonotone4MinSplit = refl
-  beside_joined p otherKind.Unknown = refl
+  beside_joined p other_kind.Absent = refl
+  beside_joined p other_kind.EverywhereConstant = refl
+  beside_joined p other_kind.ConstantGrad = refl
+  beside_joined p other_kind.ConvexMonotone2 = refl
+  beside_joined p other_kind.ConvexMonotone3 = refl
+  beside_joined p other_kind.ConvexMonotone4 = refl
+  beside_joined p other_kind.ConvexMonotone4Min = refl
+  beside_joined p other_kind.ConvexMonotone4MinSplit = refl
+  beside_joined p other_kind.Unknown = refl
 
   pairs_joined : (q : QuadraticKind) (o : OtherKind) → is_section (joined w (quadratic_from q s) (other_from o s)) ≡ pairs q o
   unfolding joined quadratic_from
-  pairs_joined quadraticKind.Absent o = alone_joined o
-  pairs_joined quadraticKind.Quadratic o = beside_joined (quadratic.Quadratic (quadratic_in s)) o
-  pairs_joined quadraticKind.QuadraticMin o = beside_joined (quadratic.QuadraticMin (quadratic_min_in false s)) o
-  pairs_joined quadraticKind.QuadraticMinSplit o = beside_joined (quadratic.QuadraticMin (quadratic_min_in true s)) o
-  pairs_joined quadraticKind.Unknown o = refl
+  pairs_joined quadratic_kind.Absent o = alone_joined o
+  pairs_joined quadratic_kind.Quadratic o = beside_joined (quadratic.Quadratic (quadratic_in s)) o
+  pairs_joined quadratic_kind.QuadraticMin o = beside_joined (quadratic.QuadraticMin (quadratic_min_in false s)) o
+  pairs_joined quadratic_kind.QuadraticMinSplit o = beside_joined (quadratic.QuadraticMin (quadratic_min_in true s)) o
+  pairs_joined quadratic_kind.Unknown o = refl
 
 -- a tag is read as a section exactly where document 01 calls it legal
 pub legal_exactly : (t : ℕ) (s : List Float) → field_count ≤ length s → is_section (read_section t s) ≡ legal t
@@ -92,17 +92,17 @@ illegal_reads_nothing t s e =
 abbrev spare : ℕ → ℕ
 spare t = t % 2 ^ 7
 
-unknown_illegal : (q : QuadraticKind) → pairs q otherKind.Unknown ≡ false
-unknown_illegal quadraticKind.Absent = refl
-unknown_illegal quadraticKind.Quadratic = refl
-unknown_illegal quadraticKind.QuadraticMin = refl
-unknown_illegal quadraticKind.QuadraticMinSplit = refl
-unknown_illegal quadraticKind.Unknown = refl
+unknown_illegal : (q : QuadraticKind) → pairs q other_kind.Unknown ≡ false
+unknown_illegal quadratic_kind.Absent = refl
+unknown_illegal quadratic_kind.Quadratic = refl
+unknown_illegal quadratic_kind.QuadraticMin = refl
+unknown_illegal quadratic_kind.QuadraticMinSplit = refl
+unknown_illegal quadratic_kind.Unknown = refl
 
-spare_unknown : (t : ℕ) → (spare t ≡ 0 → ⊥) → other_named t ≡ otherKind.Unknown
+spare_unknown : (t : ℕ) → (spare t ≡ 0 → ⊥) → other_named t ≡ other_kind.Unknown
 unfolding other_named
 spare_unknown t k =
-    none_with otherKind.Unknown other_bits (t % 2 ^ 12) (Unit {0}) other_kinds
+    none_with other_kind.Unknown other_bits (t % 2 ^ 12) (Unit {0}) other_kinds
     ((((((((tt, λ e. k (omega arith)), λ e. k (omega arith)), λ e. k (omega arith)), λ e. k (omega arith)), λ e. k (omega arith)), λ e. k (omega arith)), λ e. k (omega arith)), λ e. k (omega arith))
 
 spare_illegal : (t : ℕ) → (spare t ≡ 0 → ⊥) → legal t ≡ false

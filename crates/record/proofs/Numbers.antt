@@ -18,9 +18,9 @@ use Rattle.section.specs.QuadraticPart as quadratic_part
 use Rattle.section.specs.ConvexMonotonePart as convex_part
 use Rattle.section.specs.Section.{value, primitive}
 use Rattle.record.specs.declared.reading.QuadraticFound.{QuadraticFound}
-use Rattle.record.specs.declared.reading.QuadraticFound.TheVariants as maybeQuadratic
+use Rattle.record.specs.declared.reading.QuadraticFound.TheVariants as maybe_quadratic
 use Rattle.record.specs.declared.reading.OtherFound.{OtherFound}
-use Rattle.record.specs.declared.reading.OtherFound.TheVariants as maybeOther
+use Rattle.record.specs.declared.reading.OtherFound.TheVariants as maybe_other
 use Rattle.record.specs.declared.number.Answer.{Answer}
 use Rattle.record.specs.declared.number.Answer.TheVariants as answer
 use Rattle.record.specs.declared.number.Part.{Part}
@@ -60,17 +60,17 @@ primitive_weighs q p c w = (both_weigh q p c w).1
 module _ (f : Section → Float) (weighs : Weighs f) (w : Float) where
   pub together_answers : (p : QuadraticFound) (o : OtherFound) → together w (quadratic_number f p) (other_number f o) ≡ answer_in f (joined w p o)
   unfolding together quadratic_number other_number joined
-  together_answers maybeQuadratic.Unknown o = refl
-  together_answers maybeQuadratic.Absent maybeOther.Absent = refl
-  together_answers maybeQuadratic.Absent maybeOther.Unknown = refl
-  together_answers maybeQuadratic.Absent (maybeOther.Constant s) = refl
-  together_answers maybeQuadratic.Absent (maybeOther.Gradient s) = refl
-  together_answers maybeQuadratic.Absent (maybeOther.Convex c) = refl
-  together_answers (maybeQuadratic.Part p) maybeOther.Absent = refl
-  together_answers (maybeQuadratic.Part p) maybeOther.Unknown = refl
-  together_answers (maybeQuadratic.Part p) (maybeOther.Constant s) = refl
-  together_answers (maybeQuadratic.Part p) (maybeOther.Gradient s) = refl
-  together_answers (maybeQuadratic.Part p) (maybeOther.Convex c) = ap (λ (v : Float). answer.Number (mark v)) (weighs p c w)
+  together_answers maybe_quadratic.Unknown o = refl
+  together_answers maybe_quadratic.Absent maybe_other.Absent = refl
+  together_answers maybe_quadratic.Absent maybe_other.Unknown = refl
+  together_answers maybe_quadratic.Absent (maybe_other.Constant s) = refl
+  together_answers maybe_quadratic.Absent (maybe_other.Gradient s) = refl
+  together_answers maybe_quadratic.Absent (maybe_other.Convex c) = refl
+  together_answers (maybe_quadratic.Part p) maybe_other.Absent = refl
+  together_answers (maybe_quadratic.Part p) maybe_other.Unknown = refl
+  together_answers (maybe_quadratic.Part p) (maybe_other.Constant s) = refl
+  together_answers (maybe_quadratic.Part p) (maybe_other.Gradient s) = refl
+  together_answers (maybe_quadratic.Part p) (maybe_other.Convex c) = ap (λ (v : Float). answer.Number (mark v)) (weighs p c w)
 
 -- the whole record: too few slots, or the two parts that its tag names
 module _ (f : Section → Float) (tag : ℕ) (s : List Float) where
@@ -78,8 +78,8 @@ module _ (f : Section → Float) (tag : ℕ) (s : List Float) where
   unfolding read_section
   short_answers h = simp (lt-ltb _ _ h)
 
-  module _ {quadraticKind : QuadraticKind} {otherKind : OtherKind} {p o : Part} {a : Answer} where
-    pub parts_answer : Weighs f → field_count ≤ length s → quadraticKind ≡ quadratic_named tag → p ≡ quadratic_number f (quadratic_from quadraticKind s) →
-        otherKind ≡ other_named tag → o ≡ other_number f (other_from otherKind s) → a ≡ together (slot s 0) p o → a ≡ answer_in f (read_section tag s)
+  module _ {quadratic_kind : QuadraticKind} {other_kind : OtherKind} {p o : Part} {a : Answer} where
+    pub parts_answer : Weighs f → field_count ≤ length s → quadratic_kind ≡ quadratic_named tag → p ≡ quadratic_number f (quadratic_from quadratic_kind s) →
+        other_kind ≡ other_named tag → o ≡ other_number f (other_from other_kind s) → a ≡ together (slot s 0) p o → a ≡ answer_in f (read_section tag s)
     unfolding read_section
     parts_answer weighs h k e l g t = simp (le-ltb _ _ h) (t ∙ rw (e, k, g, l) (together_answers f weighs (slot s 0) _ _))

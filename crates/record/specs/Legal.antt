@@ -3,40 +3,40 @@ use Rattle.std.specs.Prelude.{ℕ, Bool, true, false, ◌&&◌, List, leb, Float
 use Rattle.numbers.specs.Sizes.{field_count}
 use Rattle.record.specs.Tag.{quadratic_named, other_named}
 use Rattle.record.specs.declared.tag.QuadraticKind.{QuadraticKind}
-use Rattle.record.specs.declared.tag.QuadraticKind.TheVariants as quadraticKind
+use Rattle.record.specs.declared.tag.QuadraticKind.TheVariants as quadratic_kind
 use Rattle.record.specs.declared.tag.OtherKind.{OtherKind}
-use Rattle.record.specs.declared.tag.OtherKind.TheVariants as otherKind
+use Rattle.record.specs.declared.tag.OtherKind.TheVariants as other_kind
 
 -- with no quadratic part there must be another
 abbrev pub alone : OtherKind → Bool
-alone otherKind.Absent = false
-alone otherKind.EverywhereConstant = true
-alone otherKind.ConstantGrad = true
-alone otherKind.ConvexMonotone2 = true
-alone otherKind.ConvexMonotone3 = true
-alone otherKind.ConvexMonotone4 = true
-alone otherKind.ConvexMonotone4Min = true
-alone otherKind.ConvexMonotone4MinSplit = true
-alone otherKind.Unknown = false
+alone other_kind.Absent = false
+alone other_kind.EverywhereConstant = true
+alone other_kind.ConstantGrad = true
+alone other_kind.ConvexMonotone2 = true
+alone other_kind.ConvexMonotone3 = true
+alone other_kind.ConvexMonotone4 = true
+alone other_kind.ConvexMonotone4Min = true
+alone other_kind.ConvexMonotone4MinSplit = true
+alone other_kind.Unknown = false
 
 -- with one, there need not be another, and it is of no constant kind
 abbrev pub beside : OtherKind → Bool
-beside otherKind.Absent = true
-beside otherKind.EverywhereConstant = false
-beside otherKind.ConstantGrad = false
-beside otherKind.ConvexMonotone2 = true
-beside otherKind.ConvexMonotone3 = true
-beside otherKind.ConvexMonotone4 = true
-beside otherKind.ConvexMonotone4Min = true
-beside otherKind.ConvexMonotone4MinSplit = true
-beside otherKind.Unknown = false
+beside other_kind.Absent = true
+beside other_kind.EverywhereConstant = false
+beside other_kind.ConstantGrad = false
+beside other_kind.ConvexMonotone2 = true
+beside other_kind.ConvexMonotone3 = true
+beside other_kind.ConvexMonotone4 = true
+beside other_kind.ConvexMonotone4Min = true
+beside other_kind.ConvexMonotone4MinSplit = true
+beside other_kind.Unknown = false
 
 abbrev pub pairs : QuadraticKind → OtherKind → Bool
-pairs quadraticKind.Absent o = alone o
-pairs quadraticKind.Quadratic o = beside o
-pairs quadraticKind.QuadraticMin o = beside o
-pairs quadraticKind.QuadraticMinSplit o = beside o
-pairs quadraticKind.Unknown o = false
+pairs quadratic_kind.Absent o = alone o
+pairs quadratic_kind.Quadratic o = beside o
+pairs quadratic_kind.QuadraticMin o = beside o
+pairs quadratic_kind.QuadraticMinSplit o = beside o
+pairs quadratic_kind.Unknown o = false
 
 -- a code that is not named, a split bit of another kind and a spare bit make a kind unknown
 abbrev pub legal : ℕ → Bool

@@ -6,32 +6,32 @@ use Rattle.numbers.specs.Words.{◌⊖◌, one, ordinary_size, ordinary_divisor}
 use Rattle.record.specs.Reading.{slot}
 use Rattle.record.specs.Tag.{quadratic_named, other_named}
 use Rattle.record.specs.declared.tag.QuadraticKind.{QuadraticKind}
-use Rattle.record.specs.declared.tag.QuadraticKind.TheVariants as quadraticKind
+use Rattle.record.specs.declared.tag.QuadraticKind.TheVariants as quadratic_kind
 use Rattle.record.specs.declared.tag.OtherKind.{OtherKind}
-use Rattle.record.specs.declared.tag.OtherKind.TheVariants as otherKind
+use Rattle.record.specs.declared.tag.OtherKind.TheVariants as other_kind
 
 -- What each kind divides by. Slot 2 is the length of a Quadratic; slots 1 and 4 are the ends of a QuadraticMin, and slot 12 is its ratio.
 abbrev pub ordinary_quadratic : QuadraticKind → List Float → Bool
-ordinary_quadratic quadraticKind.Absent s = true
-ordinary_quadratic quadraticKind.Quadratic s = ordinary_divisor (slot s 2)
-ordinary_quadratic quadraticKind.QuadraticMin s = ordinary_divisor (slot s 4 ⊖ slot s 1)
-ordinary_quadratic quadraticKind.QuadraticMinSplit s = ordinary_divisor (slot s 4 ⊖ slot s 1) && ordinary_divisor (slot s 12)
-ordinary_quadratic quadraticKind.Unknown s = false
+ordinary_quadratic quadratic_kind.Absent s = true
+ordinary_quadratic quadratic_kind.Quadratic s = ordinary_divisor (slot s 2)
+ordinary_quadratic quadratic_kind.QuadraticMin s = ordinary_divisor (slot s 4 ⊖ slot s 1)
+ordinary_quadratic quadratic_kind.QuadraticMinSplit s = ordinary_divisor (slot s 4 ⊖ slot s 1) && ordinary_divisor (slot s 12)
+ordinary_quadratic quadratic_kind.Unknown s = false
 
 -- slot 14 is the length of a convex-monotone kind, slot 18 its eta, and slot 21 its ratio
 abbrev pub ordinary_fourth : List Float → Bool
 ordinary_fourth s = ordinary_divisor (slot s 14) && (ordinary_divisor (slot s 18) && ordinary_divisor (one ⊖ slot s 18))
 
 abbrev pub ordinary_other : OtherKind → List Float → Bool
-ordinary_other otherKind.Absent s = true
-ordinary_other otherKind.EverywhereConstant s = true
-ordinary_other otherKind.ConstantGrad s = true
-ordinary_other otherKind.ConvexMonotone2 s = ordinary_divisor (slot s 14) && ordinary_divisor (one ⊖ slot s 18)
-ordinary_other otherKind.ConvexMonotone3 s = ordinary_divisor (slot s 14) && ordinary_divisor (slot s 18)
-ordinary_other otherKind.ConvexMonotone4 s = ordinary_fourth s
-ordinary_other otherKind.ConvexMonotone4Min s = ordinary_fourth s
-ordinary_other otherKind.ConvexMonotone4MinSplit s = ordinary_fourth s && ordinary_divisor (slot s 21)
-ordinary_other otherKind.Unknown s = false
+ordinary_other other_kind.Absent s = true
+ordinary_other other_kind.EverywhereConstant s = true
+ordinary_other other_kind.ConstantGrad s = true
+ordinary_other other_kind.ConvexMonotone2 s = ordinary_divisor (slot s 14) && ordinary_divisor (one ⊖ slot s 18)
+ordinary_other other_kind.ConvexMonotone3 s = ordinary_divisor (slot s 14) && ordinary_divisor (slot s 18)
+ordinary_other other_kind.ConvexMonotone4 s = ordinary_fourth s
+ordinary_other other_kind.ConvexMonotone4Min s = ordinary_fourth s
+ordinary_other other_kind.ConvexMonotone4MinSplit s = ordinary_fourth s && ordinary_divisor (slot s 21)
+ordinary_other other_kind.Unknown s = false
 
 -- every number of the section is of ordinary size, those that its kinds don't use included
 abbrev pub ordinary_slots : List Float → Bool

@@ -23,13 +23,13 @@ use Rattle.refusal.specs.declared.Refusal.TheVariants.{RecordNotLegal}
 use Rattle.record.specs.Slots.{slots_of}
 use Rattle.record.specs.Tag.{quadratic_named, other_named, tag_of}
 use Rattle.record.specs.declared.tag.QuadraticKind.{QuadraticKind}
-use Rattle.record.specs.declared.tag.QuadraticKind.TheVariants as quadraticKind
+use Rattle.record.specs.declared.tag.QuadraticKind.TheVariants as quadratic_kind
 use Rattle.record.specs.declared.tag.OtherKind.{OtherKind}
-use Rattle.record.specs.declared.tag.OtherKind.TheVariants as otherKind
+use Rattle.record.specs.declared.tag.OtherKind.TheVariants as other_kind
 use Rattle.record.specs.declared.reading.QuadraticFound.{QuadraticFound}
-use Rattle.record.specs.declared.reading.QuadraticFound.TheVariants as maybeQuadratic
+use Rattle.record.specs.declared.reading.QuadraticFound.TheVariants as maybe_quadratic
 use Rattle.record.specs.declared.reading.OtherFound.{OtherFound}
-use Rattle.record.specs.declared.reading.OtherFound.TheVariants as maybeOther
+use Rattle.record.specs.declared.reading.OtherFound.TheVariants as maybe_other
 use Rattle.record.specs.declared.reading.Found.{Found}
 use Rattle.record.specs.declared.reading.Found.TheVariants as found
 
@@ -103,35 +103,35 @@ fourth_min_in split s = record { base = fourth_in s; split_region = split; x_rat
 
 -- the part of each kind
 unfoldable pub quadratic_from : QuadraticKind → List Float → QuadraticFound
-quadratic_from quadraticKind.Absent s = maybeQuadratic.Absent
-quadratic_from quadraticKind.Quadratic s = maybeQuadratic.Part (quadratic.Quadratic (quadratic_in s))
-quadratic_from quadraticKind.QuadraticMin s = maybeQuadratic.Part (quadratic.QuadraticMin (quadratic_min_in false s))
-quadratic_from quadraticKind.QuadraticMinSplit s = maybeQuadratic.Part (quadratic.QuadraticMin (quadratic_min_in true s))
-quadratic_from quadraticKind.Unknown s = maybeQuadratic.Unknown
+quadratic_from quadratic_kind.Absent s = maybe_quadratic.Absent
+quadratic_from quadratic_kind.Quadratic s = maybe_quadratic.Part (quadratic.Quadratic (quadratic_in s))
+quadratic_from quadratic_kind.QuadraticMin s = maybe_quadratic.Part (quadratic.QuadraticMin (quadratic_min_in false s))
+quadratic_from quadratic_kind.QuadraticMinSplit s = maybe_quadratic.Part (quadratic.QuadraticMin (quadratic_min_in true s))
+quadratic_from quadratic_kind.Unknown s = maybe_quadratic.Unknown
 
 unfoldable pub other_from : OtherKind → List Float → OtherFound
-other_from otherKind.Absent s = maybeOther.Absent
-other_from otherKind.EverywhereConstant s = maybeOther.Constant (constant_in s)
-other_from otherKind.ConstantGrad s = maybeOther.Gradient (gradient_in s)
-other_from otherKind.ConvexMonotone2 s = maybeOther.Convex (convex.ConvexMonotone2 (second_in s))
-other_from otherKind.ConvexMonotone3 s = maybeOther.Convex (convex.ConvexMonotone3 (third_in s))
-other_from otherKind.ConvexMonotone4 s = maybeOther.Convex (convex.ConvexMonotone4 (fourth_in s))
-other_from otherKind.ConvexMonotone4Min s = maybeOther.Convex (convex.ConvexMonotone4Min (fourth_min_in false s))
-other_from otherKind.ConvexMonotone4MinSplit s = maybeOther.Convex (convex.ConvexMonotone4Min (fourth_min_in true s))
-other_from otherKind.Unknown s = maybeOther.Unknown
+other_from other_kind.Absent s = maybe_other.Absent
+other_from other_kind.EverywhereConstant s = maybe_other.Constant (constant_in s)
+other_from other_kind.ConstantGrad s = maybe_other.Gradient (gradient_in s)
+other_from other_kind.ConvexMonotone2 s = maybe_other.Convex (convex.ConvexMonotone2 (second_in s))
+other_from other_kind.ConvexMonotone3 s = maybe_other.Convex (convex.ConvexMonotone3 (third_in s))
+other_from other_kind.ConvexMonotone4 s = maybe_other.Convex (convex.ConvexMonotone4 (fourth_in s))
+other_from other_kind.ConvexMonotone4Min s = maybe_other.Convex (convex.ConvexMonotone4Min (fourth_min_in false s))
+other_from other_kind.ConvexMonotone4MinSplit s = maybe_other.Convex (convex.ConvexMonotone4Min (fourth_min_in true s))
+other_from other_kind.Unknown s = maybe_other.Unknown
 
 unfoldable pub joined : Float → QuadraticFound → OtherFound → Found
-joined w maybeQuadratic.Unknown o = found.Illegal
-joined w maybeQuadratic.Absent maybeOther.Absent = found.Illegal
-joined w maybeQuadratic.Absent maybeOther.Unknown = found.Illegal
-joined w maybeQuadratic.Absent (maybeOther.Constant s) = found.Section (section.EverywhereConstant s)
-joined w maybeQuadratic.Absent (maybeOther.Gradient s) = found.Section (section.ConstantGrad s)
-joined w maybeQuadratic.Absent (maybeOther.Convex c) = found.Section (convex_part.alone c)
-joined w (maybeQuadratic.Part q) maybeOther.Absent = found.Section (quadratic_part.alone q)
-joined w (maybeQuadratic.Part q) maybeOther.Unknown = found.Illegal
-joined w (maybeQuadratic.Part q) (maybeOther.Constant s) = found.Illegal
-joined w (maybeQuadratic.Part q) (maybeOther.Gradient s) = found.Illegal
-joined w (maybeQuadratic.Part q) (maybeOther.Convex c) = found.Section (section.Combination (combination.new q c w))
+joined w maybe_quadratic.Unknown o = found.Illegal
+joined w maybe_quadratic.Absent maybe_other.Absent = found.Illegal
+joined w maybe_quadratic.Absent maybe_other.Unknown = found.Illegal
+joined w maybe_quadratic.Absent (maybe_other.Constant s) = found.Section (section.EverywhereConstant s)
+joined w maybe_quadratic.Absent (maybe_other.Gradient s) = found.Section (section.ConstantGrad s)
+joined w maybe_quadratic.Absent (maybe_other.Convex c) = found.Section (convex_part.alone c)
+joined w (maybe_quadratic.Part q) maybe_other.Absent = found.Section (quadratic_part.alone q)
+joined w (maybe_quadratic.Part q) maybe_other.Unknown = found.Illegal
+joined w (maybe_quadratic.Part q) (maybe_other.Constant s) = found.Illegal
+joined w (maybe_quadratic.Part q) (maybe_other.Gradient s) = found.Illegal
+joined w (maybe_quadratic.Part q) (maybe_other.Convex c) = found.Section (section.Combination (combination.new q c w))
 
 unfoldable pub read_section : ℕ → List Float → Found
 unfolding quadratic_named other_named quadratic_from other_from joined

@@ -7,9 +7,9 @@ use Rattle.section.specs.declared.section.Section.TheVariants as section
 use Rattle.section.specs.QuadraticPart as quadratic_part
 use Rattle.section.specs.ConvexMonotonePart as convex_part
 use Rattle.record.specs.declared.reading.QuadraticFound.{QuadraticFound}
-use Rattle.record.specs.declared.reading.QuadraticFound.TheVariants as maybeQuadratic
+use Rattle.record.specs.declared.reading.QuadraticFound.TheVariants as maybe_quadratic
 use Rattle.record.specs.declared.reading.OtherFound.{OtherFound}
-use Rattle.record.specs.declared.reading.OtherFound.TheVariants as maybeOther
+use Rattle.record.specs.declared.reading.OtherFound.TheVariants as maybe_other
 use Rattle.record.specs.declared.number.Answer.{Answer}
 use Rattle.record.specs.declared.number.Answer.TheVariants as answer
 use Rattle.record.specs.declared.number.Part.{Part}
@@ -17,16 +17,16 @@ use Rattle.record.specs.declared.number.Part.TheVariants as part
 
 -- a part's number: f of the part as a section by itself
 unfoldable pub quadratic_number : (Section → Float) → QuadraticFound → Part
-quadratic_number f maybeQuadratic.Absent = part.Absent
-quadratic_number f (maybeQuadratic.Part q) = part.Shared (f (quadratic_part.alone q))
-quadratic_number f maybeQuadratic.Unknown = part.Unknown
+quadratic_number f maybe_quadratic.Absent = part.Absent
+quadratic_number f (maybe_quadratic.Part q) = part.Shared (f (quadratic_part.alone q))
+quadratic_number f maybe_quadratic.Unknown = part.Unknown
 
 unfoldable pub other_number : (Section → Float) → OtherFound → Part
-other_number f maybeOther.Absent = part.Absent
-other_number f (maybeOther.Constant s) = part.Alone (f (section.EverywhereConstant s))
-other_number f (maybeOther.Gradient s) = part.Alone (f (section.ConstantGrad s))
-other_number f (maybeOther.Convex c) = part.Shared (f (convex_part.alone c))
-other_number f maybeOther.Unknown = part.Unknown
+other_number f maybe_other.Absent = part.Absent
+other_number f (maybe_other.Constant s) = part.Alone (f (section.EverywhereConstant s))
+other_number f (maybe_other.Gradient s) = part.Alone (f (section.ConstantGrad s))
+other_number f (maybe_other.Convex c) = part.Shared (f (convex_part.alone c))
+other_number f maybe_other.Unknown = part.Unknown
 
 -- both numbers weighted as in a combination, or the one that there is; no quadratic part stands alone
 unfoldable pub together : Float → Part → Part → Answer

@@ -9,9 +9,9 @@ use Rattle.section.specs.declared.convex_monotone_part.ConvexMonotonePart.TheVar
 use Rattle.section.specs.declared.section.Section.{Section}
 use Rattle.section.specs.declared.section.Section.TheVariants as section
 use Rattle.record.specs.declared.tag.QuadraticKind.{QuadraticKind}
-use Rattle.record.specs.declared.tag.QuadraticKind.TheVariants as quadraticKind
+use Rattle.record.specs.declared.tag.QuadraticKind.TheVariants as quadratic_kind
 use Rattle.record.specs.declared.tag.OtherKind.{OtherKind}
-use Rattle.record.specs.declared.tag.OtherKind.TheVariants as otherKind
+use Rattle.record.specs.declared.tag.OtherKind.TheVariants as other_kind
 
 -- most significant first: 3 bits for the quadratic part, 1 for its split, 4 for the other part, 1 for its split, 7 to spare
 abbrev pub bit : Bool → ℕ
@@ -26,22 +26,22 @@ other_field code split = code * 2 ^ 8 + bit split * 2 ^ 7
 
 -- the codes: split bits occur only with the Min kinds, and an unknown kind, which no section has, adds no bit
 abbrev pub quadratic_bits : QuadraticKind → ℕ
-quadratic_bits quadraticKind.Absent = quadratic_field 0 false
-quadratic_bits quadraticKind.Quadratic = quadratic_field 1 false
-quadratic_bits quadraticKind.QuadraticMin = quadratic_field 2 false
-quadratic_bits quadraticKind.QuadraticMinSplit = quadratic_field 2 true
-quadratic_bits quadraticKind.Unknown = quadratic_field 0 false
+quadratic_bits quadratic_kind.Absent = quadratic_field 0 false
+quadratic_bits quadratic_kind.Quadratic = quadratic_field 1 false
+quadratic_bits quadratic_kind.QuadraticMin = quadratic_field 2 false
+quadratic_bits quadratic_kind.QuadraticMinSplit = quadratic_field 2 true
+quadratic_bits quadratic_kind.Unknown = quadratic_field 0 false
 
 abbrev pub other_bits : OtherKind → ℕ
-other_bits otherKind.Absent = other_field 0 false
-other_bits otherKind.EverywhereConstant = other_field 1 false
-other_bits otherKind.ConstantGrad = other_field 2 false
-other_bits otherKind.ConvexMonotone2 = other_field 3 false
-other_bits otherKind.ConvexMonotone3 = other_field 4 false
-other_bits otherKind.ConvexMonotone4 = other_field 5 false
-other_bits otherKind.ConvexMonotone4Min = other_field 6 false
-other_bits otherKind.ConvexMonotone4MinSplit = other_field 6 true
-other_bits otherKind.Unknown = other_field 0 false
+other_bits other_kind.Absent = other_field 0 false
+other_bits other_kind.EverywhereConstant = other_field 1 false
+other_bits other_kind.ConstantGrad = other_field 2 false
+other_bits other_kind.ConvexMonotone2 = other_field 3 false
+other_bits other_kind.ConvexMonotone3 = other_field 4 false
+other_bits other_kind.ConvexMonotone4 = other_field 5 false
+other_bits other_kind.ConvexMonotone4Min = other_field 6 false
+other_bits other_kind.ConvexMonotone4MinSplit = other_field 6 true
+other_bits other_kind.Unknown = other_field 0 false
 
 -- of some kinds the one whose bits these are, else d
 abbrev pub kind_with : {K : Type 0} → K → (K → ℕ) → List K → ℕ → K
@@ -50,42 +50,42 @@ kind_with d bits (k ∷ ks) n = cond (eqb n (bits k)) k (kind_with d bits ks n)
 
 abbrev pub quadratic_kinds : List QuadraticKind
 quadratic_kinds =
-    quadraticKind.Absent ∷ quadraticKind.Quadratic ∷ quadraticKind.QuadraticMin ∷ quadraticKind.QuadraticMinSplit ∷ []
+    quadratic_kind.Absent ∷ quadratic_kind.Quadratic ∷ quadratic_kind.QuadraticMin ∷ quadratic_kind.QuadraticMinSplit ∷ []
 
 abbrev pub other_kinds : List OtherKind
 other_kinds =
-    otherKind.Absent
-    ∷ otherKind.EverywhereConstant
-    ∷ otherKind.ConstantGrad
-    ∷ otherKind.ConvexMonotone2
-    ∷ otherKind.ConvexMonotone3
-    ∷ otherKind.ConvexMonotone4
-    ∷ otherKind.ConvexMonotone4Min
-    ∷ otherKind.ConvexMonotone4MinSplit
+    other_kind.Absent
+    ∷ other_kind.EverywhereConstant
+    ∷ other_kind.ConstantGrad
+    ∷ other_kind.ConvexMonotone2
+    ∷ other_kind.ConvexMonotone3
+    ∷ other_kind.ConvexMonotone4
+    ∷ other_kind.ConvexMonotone4Min
+    ∷ other_kind.ConvexMonotone4MinSplit
     ∷ []
 
 -- the kinds that a tag names: by its upper 4 bits, and by all others, those to spare among them
 unfoldable pub quadratic_named : ℕ → QuadraticKind
-quadratic_named tag = kind_with quadraticKind.Unknown quadratic_bits quadratic_kinds (tag / 2 ^ 12 * 2 ^ 12)
+quadratic_named tag = kind_with quadratic_kind.Unknown quadratic_bits quadratic_kinds (tag / 2 ^ 12 * 2 ^ 12)
 
 unfoldable pub other_named : ℕ → OtherKind
-other_named tag = kind_with otherKind.Unknown other_bits other_kinds (tag % 2 ^ 12)
+other_named tag = kind_with other_kind.Unknown other_bits other_kinds (tag % 2 ^ 12)
 
 -- the tag of a section, the other way
 unfoldable pub quadratic_tag : QuadraticPart → ℕ
-quadratic_tag (quadratic.Quadratic s) = quadratic_bits quadraticKind.Quadratic
-quadratic_tag (quadratic.QuadraticMin s) = cond s.split_region (quadratic_bits quadraticKind.QuadraticMinSplit) (quadratic_bits quadraticKind.QuadraticMin)
+quadratic_tag (quadratic.Quadratic s) = quadratic_bits quadratic_kind.Quadratic
+quadratic_tag (quadratic.QuadraticMin s) = cond s.split_region (quadratic_bits quadratic_kind.QuadraticMinSplit) (quadratic_bits quadratic_kind.QuadraticMin)
 
 unfoldable pub convex_tag : ConvexMonotonePart → ℕ
-convex_tag (convex.ConvexMonotone2 s) = other_bits otherKind.ConvexMonotone2
-convex_tag (convex.ConvexMonotone3 s) = other_bits otherKind.ConvexMonotone3
-convex_tag (convex.ConvexMonotone4 s) = other_bits otherKind.ConvexMonotone4
-convex_tag (convex.ConvexMonotone4Min s) = cond s.split_region (other_bits otherKind.ConvexMonotone4MinSplit) (other_bits otherKind.ConvexMonotone4Min)
+convex_tag (convex.ConvexMonotone2 s) = other_bits other_kind.ConvexMonotone2
+convex_tag (convex.ConvexMonotone3 s) = other_bits other_kind.ConvexMonotone3
+convex_tag (convex.ConvexMonotone4 s) = other_bits other_kind.ConvexMonotone4
+convex_tag (convex.ConvexMonotone4Min s) = cond s.split_region (other_bits other_kind.ConvexMonotone4MinSplit) (other_bits other_kind.ConvexMonotone4Min)
 
 unfoldable pub tag_of : Section → ℕ
 unfolding quadratic_tag convex_tag
-tag_of (section.EverywhereConstant s) = other_bits otherKind.EverywhereConstant
-tag_of (section.ConstantGrad s) = other_bits otherKind.ConstantGrad
+tag_of (section.EverywhereConstant s) = other_bits other_kind.EverywhereConstant
+tag_of (section.ConstantGrad s) = other_bits other_kind.ConstantGrad
 tag_of (section.ConvexMonotone2 s) = convex_tag (convex.ConvexMonotone2 s)
 tag_of (section.ConvexMonotone3 s) = convex_tag (convex.ConvexMonotone3 s)
 tag_of (section.ConvexMonotone4 s) = convex_tag (convex.ConvexMonotone4 s)

@@ -16,7 +16,7 @@ pub const RIGHT_PRICE: usize = FIELDS + 1;
 
 pub const TOTAL_AFTER: usize = FIELDS + 2;
 
-#[derive(Drop)]
+#[derive(Clone, Copy)]
 pub struct KnotPrices {
     pub left: f64,
     pub right: f64,

@@ -14,7 +14,7 @@ use crate::tag::{OtherKind, QuadraticKind, other_named, quadratic_named};
 use numbers::{FIELDS, Marked, mark};
 
 // What a record answers: a number with its mark, where it is legal.
-#[derive(Drop)]
+#[derive(Clone, Copy)]
 pub enum Answer {
     Number(Marked),
     Illegal,
@@ -33,7 +33,7 @@ impl Answer {
 }
 
 // The number of one of a record's two parts: of a kind that stands alone, or of one that may share a section.
-#[derive(Drop)]
+#[derive(Clone, Copy)]
 pub enum Part {
     Absent,
     Alone(f64),

@@ -19,7 +19,7 @@ use section::quadratic_part::QuadraticPart;
 use section::section::Section;
 
 // What a record holds of a quadratic part.
-#[derive(Drop)]
+#[derive(Clone, Copy)]
 pub enum QuadraticFound {
     Absent,
     Part(QuadraticPart),
@@ -27,7 +27,7 @@ pub enum QuadraticFound {
 }
 
 // What it holds of the other part.
-#[derive(Drop)]
+#[derive(Clone, Copy)]
 pub enum OtherFound {
     Absent,
     Constant(EverywhereConstant),
@@ -36,7 +36,7 @@ pub enum OtherFound {
     Unknown,
 }
 
-#[derive(Drop)]
+#[derive(Clone, Copy)]
 pub enum Found {
     Section(Section),
     Illegal,

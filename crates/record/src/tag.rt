@@ -9,7 +9,7 @@ use section::section::Section;
 
 // The kind of the quadratic part. A Min kind that is split is a kind of its own, so that nothing is left to be asked once the kind is known. `Unknown`
 // stands for a code, or a split bit, that has no meaning.
-#[derive(Drop)]
+#[derive(Clone, Copy)]
 pub enum QuadraticKind {
     Absent,
     Quadratic,
@@ -19,7 +19,7 @@ pub enum QuadraticKind {
 }
 
 // The kind of the other part. A spare bit that is set makes it `Unknown`, too.
-#[derive(Drop)]
+#[derive(Clone, Copy)]
 pub enum OtherKind {
     Absent,
     EverywhereConstant,

@@ -1,8 +1,10 @@
 // Every refusal in words, and its number: 1 to 17 are document 01's, 18, 19 and 21 are document 02's, and 28 to 30 are the library's own.
+#![tactic(auto)]
+
 ghost use Rattle.std.specs.Prelude.{◌≡◌};
 ghost use Rattle.refusal.specs.Refusal.{number, verdict_number};
 
-#[derive(Drop)]
+#[derive(Clone, Copy)]
 pub enum Refusal {
     LengthsDiffer,
     MonotonicityOutside,
@@ -62,7 +64,7 @@ impl Refusal {
 }
 
 // What a check says of an input.
-#[derive(Drop)]
+#[derive(Clone, Copy)]
 pub enum Verdict {
     Accepted,
     Refused(Refusal),

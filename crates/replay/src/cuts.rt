@@ -8,7 +8,7 @@ use assembly::sections::Tail;
 use curve::curve::Curve;
 
 // Whether the table was cut at all, whether the whole was refused, and whether the sheets came to the same.
-#[derive(Drop)]
+#[derive(Clone, Copy)]
 pub(crate) struct Cut {
     pub cut: bool,
     pub refused: bool,

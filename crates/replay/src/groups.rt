@@ -12,7 +12,7 @@ use curve::curve::Curve;
 // What the next lines are about: a section whose record is not told yet, or that is asked; an outcome that is not told yet; a curve of which so many
 // records were told, one of which the section in the next record was told too but not its knots, one whose end was told too, one whose nodes were told
 // too, or one that is told whole and is asked.
-#[derive(Drop)]
+#[derive(Clone, Copy)]
 pub(crate) enum Subject {
     Nothing,
     Made,
@@ -26,7 +26,7 @@ pub(crate) enum Subject {
 }
 
 // The record counts while the subject is its section. What is kept of the last table is grown from, whatever sound line came since, until it is forgotten.
-#[derive(Drop)]
+#[derive(Clone, Copy)]
 pub(crate) struct State {
     pub seen: Seen,
     pub subject: Subject,

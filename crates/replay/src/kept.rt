@@ -9,14 +9,14 @@ pub(crate) const TAGS: usize = 31;
 
 pub(crate) const ROOM: usize = TAGS * SLOTS;
 
-#[derive(Drop)]
+#[derive(Clone, Copy)]
 pub(crate) enum Outcome {
     Curve(Curve),
     Refused(u64),
     Nothing,
 }
 
-#[derive(Drop)]
+#[derive(Clone, Copy)]
 pub(crate) struct Kept {
     pub outcome: Outcome,
     pub grown: bool,

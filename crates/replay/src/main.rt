@@ -1,4 +1,6 @@
 // Replays the original's answers: reads its file from standard input, works each answer out again and counts what differs.
+#![tactic(auto)]
+
 mod curves;
 mod cuts;
 mod defaults;

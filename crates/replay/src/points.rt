@@ -7,7 +7,7 @@ use crate::words::MOST;
 pub(crate) const POINTS: usize = 32;
 
 // Behind the knots and the averages stand zeros. `rest` is the place behind their words. They are not sound where there are too many.
-#[derive(Drop)]
+#[derive(Clone, Copy)]
 pub(crate) struct Points {
     pub sound: bool,
     pub knots: usize,

@@ -5,7 +5,7 @@ use record::reading::Found;
 use section::section::Section;
 
 // A section as its record alone: what is asked of it is asked of the section that is read back.
-#[derive(Drop)]
+#[derive(Clone, Copy)]
 pub(crate) struct Record {
     pub tag: u16,
     pub slots: [f64; FIELDS],

@@ -17,13 +17,13 @@ use section::everywhere_constant::EverywhereConstant;
 use section::quadratic_part::QuadraticPart;
 use section::section::Section;
 
-#[derive(Drop)]
+#[derive(Clone, Copy)]
 enum QuadraticMade {
     Part(QuadraticPart),
     Nothing,
 }
 
-#[derive(Drop)]
+#[derive(Clone, Copy)]
 enum ConvexMade {
     Part(ConvexMonotonePart),
     Nothing,

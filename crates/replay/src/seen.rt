@@ -6,7 +6,7 @@ pub(crate) const KINDS: usize = 11;
 
 // What was seen of the curves that were built, or of those that were grown: `totals` are the entries of their columns, `between` the strips that
 // were priced by the places of their ends too, and `run` those that were priced in a run.
-#[derive(Drop)]
+#[derive(Clone, Copy)]
 pub(crate) struct Curves {
     pub asked: u64,
     pub refused: u64,
@@ -21,7 +21,7 @@ pub(crate) struct Curves {
 }
 
 // What was seen of the tables that were built in sheets too.
-#[derive(Drop)]
+#[derive(Clone, Copy)]
 pub(crate) struct Sheets {
     pub made: u64,
     pub refused: u64,
@@ -29,7 +29,7 @@ pub(crate) struct Sheets {
 
 // `not_finite` are the values, primitives and strips of the original that are not finite, which are compared by the mark, and `runs_refused` the runs in
 // which one strip is not, which are refused whole.
-#[derive(Drop)]
+#[derive(Clone, Copy)]
 pub(crate) struct Seen {
     pub defaults: u64,
     pub roots: u64,

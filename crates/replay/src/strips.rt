@@ -175,7 +175,7 @@ pub(crate) fn agrees(kept: Kept, made: Curve, words: &[u64; MOST]) -> bool {
 }
 
 // The first refusal among strips, or 0, and which strip it is, or how many there are.
-#[derive(Drop)]
+#[derive(Clone, Copy)]
 struct First {
     refusal: u64,
     strip: usize,
@@ -247,7 +247,7 @@ fn steps_agree(
 }
 
 // Whether a run was refused, and whether it is as it is to be.
-#[derive(Drop)]
+#[derive(Clone, Copy)]
 pub(crate) struct Run {
     pub refused: bool,
     pub agrees: bool,

@@ -5,7 +5,7 @@ ghost use Rattle.std.specs.Prelude.{◌≡◌, ◌+◌, ◌≤◌, ◌<◌, leng
 pub(crate) const MOST: usize = 72;
 
 // A number, and the place after its last digit.
-#[derive(Drop)]
+#[derive(Clone, Copy)]
 struct Word {
     value: u64,
     next: usize,
@@ -13,7 +13,7 @@ struct Word {
 
 // The words of a line. Those past the count are 0. Where the line is not made of words it is not sound and has none, so no such line is half
 // trusted.
-#[derive(Drop)]
+#[derive(Clone, Copy)]
 pub(crate) struct Words {
     pub values: [u64; MOST],
     pub count: usize,

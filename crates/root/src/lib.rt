@@ -1,4 +1,6 @@
 // The square root, correctly rounded, by whole-number arithmetic.
+#![tactic(auto)]
+
 ghost use Rattle.std.specs.Prelude.{◌≡◌, ◌⊎◌, ◌+◌, ◌*◌, ◌/◌, ◌%◌, ◌^◌, ◌≤◌, ◌<◌};
 ghost use Rattle.root.specs.Root.{root, nearest_root, scaled, pairs};
 ghost use Rattle.root.specs.Steps.{root_bits, units_of_bits};
@@ -31,7 +33,7 @@ fn nearest_root(s: u64) -> u64
 }
 
 // A number at the size that the root needs. The root's bits are the whole number nearest to the root of significand * 2^52, plus exponent * 2^52.
-#[derive(Drop)]
+#[derive(Clone, Copy)]
 struct Normalised {
     significand: u64,
     exponent: u64,

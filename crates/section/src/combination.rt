@@ -5,7 +5,7 @@ ghost use Rattle.section.specs.Combination.{new, value, primitive, f_next};
 use crate::convex_monotone_part::ConvexMonotonePart;
 use crate::quadratic_part::QuadraticPart;
 
-#[derive(Drop)]
+#[derive(Clone, Copy)]
 pub struct Combination {
     pub quadraticity: f64,
     pub quadratic_helper: QuadraticPart,

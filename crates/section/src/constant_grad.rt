@@ -2,7 +2,7 @@
 ghost use Rattle.std.specs.Prelude.{◌≡◌};
 ghost use Rattle.section.specs.ConstantGrad.{new, value, primitive, f_next};
 
-#[derive(Drop)]
+#[derive(Clone, Copy)]
 pub struct ConstantGrad {
     pub f_prev: f64,
     pub prev_primitive: f64,

@@ -8,7 +8,7 @@ use convex::convex_monotone3::ConvexMonotone3;
 use convex::convex_monotone4::ConvexMonotone4;
 use convex::convex_monotone4_min::ConvexMonotone4Min;
 
-#[derive(Drop)]
+#[derive(Clone, Copy)]
 pub enum ConvexMonotonePart {
     ConvexMonotone2(ConvexMonotone2),
     ConvexMonotone3(ConvexMonotone3),

@@ -2,7 +2,7 @@
 ghost use Rattle.std.specs.Prelude.{◌≡◌};
 ghost use Rattle.section.specs.EverywhereConstant.{new, value, primitive, f_next};
 
-#[derive(Drop)]
+#[derive(Clone, Copy)]
 pub struct EverywhereConstant {
     pub value: f64,
     pub prev_primitive: f64,

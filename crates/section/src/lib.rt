@@ -1,4 +1,6 @@
 // The nine kinds of section that a curve is made of, and the choice among them.
+#![tactic(auto)]
+
 pub mod combination;
 pub mod constant_grad;
 pub mod convex_monotone_part;

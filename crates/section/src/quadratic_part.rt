@@ -6,7 +6,7 @@ use crate::section::Section;
 use quadratic::quadratic::Quadratic;
 use quadratic::quadratic_min::QuadraticMin;
 
-#[derive(Drop)]
+#[derive(Clone, Copy)]
 pub enum QuadraticPart {
     Quadratic(Quadratic),
     QuadraticMin(QuadraticMin),

@@ -14,7 +14,7 @@ use numbers::{Marked, mark};
 use quadratic::quadratic::Quadratic;
 use quadratic::quadratic_min::QuadraticMin;
 
-#[derive(Drop)]
+#[derive(Clone, Copy)]
 pub enum Section {
     EverywhereConstant(EverywhereConstant),
     ConstantGrad(ConstantGrad),

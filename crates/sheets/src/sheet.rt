@@ -16,21 +16,21 @@ use table::ends::{End, Frame, Seam};
 use table::method::ConvexMonotone;
 
 // The total after a sheet's last section, and the tail: three +0.0 where another sheet goes on from there.
-#[derive(Drop)]
+#[derive(Clone, Copy)]
 pub struct SheetEnd {
     pub total: f64,
     pub tail: Tail,
 }
 
 // What a sheet answers.
-#[derive(Drop)]
+#[derive(Clone, Copy)]
 pub enum SheetBuilt {
     Sheet(SheetEnd),
     Refused(Refusal),
 }
 
 // An answer in numbers: the refusal's, or 0, and what a sheet has; a refused one has nothing.
-#[derive(Drop)]
+#[derive(Clone, Copy)]
 pub struct SheetInNumbers {
     pub refusal: u8,
     pub total: f64,

@@ -21,7 +21,7 @@ pub fn all_finite(xs: &[f64]) -> bool
 }
 
 // What is asked of knots.
-#[derive(Drop)]
+#[derive(Clone, Copy)]
 pub struct Knots {
     pub finite: bool,
     pub rising: bool,

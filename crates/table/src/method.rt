@@ -4,7 +4,7 @@ ghost use Rattle.table.specs.Method.{new, defaults, gas, with_split, is_safe, sa
 
 // When positivity splits a parabola. The original does so wherever its two tests pass, also where the period then loses its average. The careful split
 // leaves such a parabola whole. The safe split decides as exact arithmetic would, so that no price falls below 0 either; its table has no average below 0.
-#[derive(Drop)]
+#[derive(Clone, Copy)]
 pub enum Split {
     Original,
     Careful,
@@ -21,7 +21,7 @@ fn is_safe(split: Split) -> bool
     }
 }
 
-#[derive(Drop)]
+#[derive(Clone, Copy)]
 pub struct ConvexMonotone {
     pub quadraticity: f64,
     pub monotonicity: f64,
