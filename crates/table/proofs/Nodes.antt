@@ -1,17 +1,17 @@
 -- In the safe mode no node is below 0: the inner ones are weighted means of averages, and the outer ones are held there.
-use Prim.Native.Nat.{ℕ, ◌+◌, ◌-◌, ◌≤◌, ◌<◌}
+use Prim.Native.Nat.{ℕ, ◌+◌, ◌-◌, ◌<◌}
 use native.Mathlib.Omega.{arith}
 use native.Mathlib.Nat.{eq-or-lt_of_le, eq-zero-or-pos}
-use mathlib.Core.Bool.{Bool, true, false, not, cond, ◌&&◌}
+use mathlib.Core.Bool.{Bool, true, false, cond}
 use mathlib.Core.List.{List}
 use mathlib.Core.Logic.{⊎_elim}
-use mathlib.Core.Path.{◌≡◌, refl, ap, ◌∙◌}
-use borrow.Author.Tests.{eqb-false, eqb-true}
+use mathlib.Core.Path.{◌≡◌, refl}
+use borrow.Author.Tests.{eqb-false}
 use lib.Dec.{eqb}
 use lib.Ieee.{Float, lt, le}
 use lib.ListN.{length}
 use Rattle.numbers.specs.Words.{◌⊕◌, ◌⊖◌, ◌⊗◌, ◌⊘◌, zero, half, three_halves}
-use Rattle.numbers.proofs.Every.{all_at, and_split}
+use Rattle.numbers.proofs.Every.{all_at}
 use Rattle.numbers.proofs.Plus.{is_plus, sum_plus, quotient_plus, difference_plus, product_not_below, sum_not_under, not_under, zero_not_under}
 use Rattle.numbers.proofs.Ways.{of_both}
 use Rattle.table.specs.Check.{rising, from_zero}
