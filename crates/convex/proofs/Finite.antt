@@ -4,7 +4,7 @@ use mathlib.Core.Path.{◌≡◌, refl}
 use lib.IntN.{negsuc}
 use lib.Dec.{lit<, lit≤}
 use lib.Ieee.{Float, le, lt, sub, of_bits}
-use Rattle.numbers.specs.Words.{◌⊕◌, ◌⊖◌, ◌⊗◌, ◌⊘◌, zero, half, one, narrow, finite}
+use Rattle.numbers.specs.Words.{◌⊕◌, ◌⊖◌, ◌⊗◌, ◌⊘◌, zero, half, one, narrow}
 use Rattle.numbers.proofs.Ways.{not_not, of_both, of_each}
 use Rattle.numbers.proofs.Bounds.{Within, Low, within_finite, wider, neg_within, sum_within, difference_within, product_within, quotient_within}
 use Rattle.numbers.proofs.Low.{product_low}

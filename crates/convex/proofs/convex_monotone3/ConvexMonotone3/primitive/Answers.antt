@@ -1,0 +1,12 @@
+-- Each return by the tests that led to it.
+use Rattle.convex.specs.ConvexMonotone3.{primitive}
+use Rattle.numbers.proofs.Ways.{ways}
+use Rattle.convex.proofs.convex_monotone3.ConvexMonotone3.primitive.Goals as goal
+
+pub returns-then-x_val-self : goal.returns-then-x_val-self
+unfolding primitive
+returns-then-x_val-self c = search ways
+
+pub returns : goal.returns
+unfolding primitive
+returns c = search ways

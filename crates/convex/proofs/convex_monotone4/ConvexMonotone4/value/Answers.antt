@@ -1,0 +1,12 @@
+-- Each return by the tests that led to it.
+use Rattle.convex.specs.ConvexMonotone4.{value}
+use Rattle.numbers.proofs.Ways.{ways}
+use Rattle.convex.proofs.convex_monotone4.ConvexMonotone4.value.Goals as goal
+
+pub returns-then-x_val-self : goal.returns-then-x_val-self
+unfolding value
+returns-then-x_val-self c = search ways
+
+pub returns : goal.returns
+unfolding value
+returns c = search ways
