@@ -1,7 +1,7 @@
 -- A section with fields within 2 ^ 80 and divisors that are at least 2 ^ -40 answers finite numbers anywhere within 2 ^ 80: a price within 2 ^ 1000, and a total
 -- within 2 ^ 960.
 use lib.Ieee.{Float}
-use Rattle.numbers.specs.Words.{◌⊕◌, ◌⊖◌, ◌⊗◌, one}
+use Rattle.numbers.specs.Words.{◌⊖◌, one}
 use Rattle.numbers.proofs.Bounds.{Within, wider, sum_within, difference_within, product_within}
 use Rattle.numbers.proofs.Ratios.{half_within, one_within}
 use Rattle.convex.proofs.Ordinary.{Second, Third, Fourth, FourthMin, second_value, second_primitive, third_value, third_primitive, fourth_value, fourth_primitive, fourth_min_value, fourth_min_primitive}
