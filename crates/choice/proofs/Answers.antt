@@ -23,7 +23,7 @@ use Rattle.section.specs.QuadraticPart as quadratic
 use Rattle.choice.specs.QuadraticPart.{made, min_kind, quadratic_part}
 use Rattle.section.specs.ConvexMonotonePart as convex
 use Rattle.choice.specs.ConvexPart.{fourth, fourth_min, second, third, convex_part}
-use Rattle.choice.specs.Choice.{section_of, by_steps, at_zero, shaped, first_region, mixed}
+use Rattle.choice.specs.Choice.{section_of, by_steps, shaped, first_region, mixed}
 use Rattle.choice.proofs.Laws.{all_quadratic, convex_alone}
 
 -- with positivity no plain fourth kind, without it no Min kind, by itself or in a combination

@@ -1,7 +1,7 @@
 -- Of which parts a chosen section is made: two only where the quadraticity lies strictly between 0 and 1, which is then the weight, and none that is split
 -- unless positivity is asked for. What is not split is not split in an unusual way.
 use mathlib.Core.Bool.{Bool, true, false, cond, ◌&&◌, ◌||◌}
-use mathlib.Core.Path.{◌≡◌, refl, sym, ap, ◌∙◌}
+use mathlib.Core.Path.{◌≡◌, refl}
 use lib.Ieee.{Float, lt}
 use Rattle.numbers.specs.Words.{◌⊕◌, ◌⊖◌, ◌⊗◌, ◌⊘◌, zero, one, two, three}
 use Rattle.numbers.proofs.Ways.{of_both, of_each, or_none}

@@ -1,5 +1,5 @@
 -- Our own: what the safe mode makes of a period; and in every mode but the original's no Min parabola that is split is longer than its period.
-use mathlib.Core.Bool.{Bool, true, false}
+use mathlib.Core.Bool.{true, false}
 use mathlib.Core.Path.{◌≡◌, refl, ap, ◌∙◌}
 use lib.Ieee.{Float, eq, le, lt}
 use Rattle.numbers.specs.Words.{◌⊖◌, zero, one, finite}
@@ -12,7 +12,7 @@ use Rattle.section.specs.ConstantGrad as grad
 use Rattle.section.specs.EverywhereConstant as constant
 use Rattle.section.specs.declared.section.Section.{Section}
 use Rattle.section.specs.declared.section.Section.TheVariants as section
-use Rattle.table.specs.Method.{with_split, safely}
+use Rattle.table.specs.Method.{with_split}
 use Rattle.table.specs.declared.method.ConvexMonotone.{ConvexMonotone}
 use Rattle.table.specs.declared.method.Split.{Split}
 use Rattle.table.specs.declared.method.Split.TheVariants as split

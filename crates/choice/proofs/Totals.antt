@@ -17,7 +17,6 @@ use Rattle.section.specs.declared.convex_monotone_part.ConvexMonotonePart.{Conve
 use Rattle.section.specs.declared.convex_monotone_part.ConvexMonotonePart.TheVariants as convex
 use Rattle.section.specs.declared.quadratic_part.QuadraticPart.{QuadraticPart}
 use Rattle.section.specs.declared.quadratic_part.QuadraticPart.TheVariants as quadratic
-use Rattle.section.specs.declared.section.Section.{Section}
 use Rattle.table.specs.Method.{safely}
 use Rattle.table.specs.declared.method.ConvexMonotone.{ConvexMonotone}
 use Rattle.table.specs.declared.method.Split.{Split}

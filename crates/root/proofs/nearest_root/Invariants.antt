@@ -1,4 +1,4 @@
--- `root::nearest_root` meets its contract. The invariant: the digits of s * 2 ^ 52 that were taken are root * root + rest, and those to come stand in left.
+-- The invariant: the digits of s * 2 ^ 52 that were taken are root * root + rest, and those to come stand in left.
 use Prim.Native.Nat.{ℕ, ◌+◌, ◌-◌, ◌*◌, ◌/◌, ◌%◌, ◌^◌, ◌≤◌, ◌<◌}
 use mathlib.Core.Path.{◌≡◌}
 use mathlib.Core.Logic.{⊎_elim}

@@ -1,10 +1,9 @@
--- `shaped` meets its contract: the quadratic part by itself, in either of its two cases, or what is made of two parts.
+-- The quadratic part by itself, in either of its two cases, or what is made of two parts.
 use mathlib.Core.Bool.{Bool, true, false, cond}
 use mathlib.Core.Path.{◌≡◌, refl, ap, ◌∙◌}
 use lib.Ieee.{Float, lt}
 use Rattle.numbers.specs.Words.{zero, one}
 use Rattle.numbers.proofs.Ways.{never, returned}
-use borrow.Author.Rules.{rules}
 use Rattle.section.specs.declared.section.Section.{Section}
 use Rattle.section.specs.QuadraticPart as quadratic
 use Rattle.table.specs.declared.method.ConvexMonotone.{ConvexMonotone}
@@ -14,8 +13,7 @@ use Rattle.choice.specs.QuadraticPart.{made, min_kind, quadratic_part}
 use Rattle.choice.specs.Regions.{in_first}
 use Rattle.choice.specs.Steps.{first_kind, is_alone, alone_kind}
 use Rattle.choice.specs.Choice.{shaped, first_region, mixed}
-use Rattle.choice.proofs.shaped.Statement.{statement}
-use Rattle.choice.proofs.shaped.Tie as tie
+use Rattle.choice.proofs.shaped.Goals as goal
 
 -- one of two parts is the part of one of two kinds
 either_made : (period : Period) (mode : Split) (b m n : Bool) → made period mode (cond b m n) ≡ cond b (made period mode m) (made period mode n)
@@ -49,11 +47,8 @@ module _ (method : ConvexMonotone) (period : Period) (P N : Float) where
       by true false g = e
       by false first g = never refl g
 
-returns : tie.Need-returns
-returns c = alone_made _ _ _ _ _ _ (returned c.before.before.before.is-alone.ensures c.before.before.if1.true) c.before.alone-kind.ensures c.made-alone.ensures
+pub returns-then-is_alone : goal.returns-then-is_alone
+returns-then-is_alone c = alone_made _ _ _ _ _ _ (returned c.is_alone.ensures c.if-is_alone.true) c.alone_kind.ensures c.made_alone.ensures
 
-returns_2 : tie.Need-returns-2
-returns_2 c = two_made _ _ _ _ _ (returned c.before.before.is-alone.ensures c.before.if1.false) c.mixed.ensures
-
-pub shaped_spec : {M : Type 1} → statement M
-shaped_spec = tie.close (tie.spec (λ c κs. search rules) (λ c κs. search rules) (λ c κs. search rules) returns (λ c κs. search rules) returns_2)
+pub returns : goal.returns
+returns c = two_made _ _ _ _ _ (returned c.is_alone.ensures c.if-is_alone.false) c.mixed.ensures
