@@ -2,12 +2,12 @@
 use Prim.Native.Nat.{ℕ, ◌≤◌, ◌<◌}
 use native.Mathlib.Omega.{arith}
 use mathlib.Core.List.{List}
-use mathlib.Core.Path.{◌≡◌, refl, sym}
+use mathlib.Core.Path.{◌≡◌, refl}
 use borrow.Author.Tests.{le-ltb}
 use lib.Ieee.{Float}
 use lib.ListN.{length}
 use Rattle.numbers.specs.Sizes.{field_count}
-use Rattle.record.specs.Reading.{slot, quadratic_from, other_from, joined, read_section}
+use Rattle.record.specs.Reading.{slot, quadratic_from, other_from, read_section}
 use Rattle.record.specs.Tag.{quadratic_named, other_named}
 use Rattle.record.specs.declared.tag.QuadraticKind.{QuadraticKind}
 use Rattle.record.specs.declared.tag.QuadraticKind.TheVariants as quadratic_kind
