@@ -67,7 +67,7 @@ totals_finite x y frame i (suc k) h =
 record Parts (x y : List Float) (frame : Frame) : Type 0 where
   first : le (neg farthest_knot) (at x 0) ≡ true
   last : le (at x (length x - 1)) farthest_knot ≡ true
-  from_zero_lem : le zero frame.method.monotonicity ≡ true
+  from_zero : le zero frame.method.monotonicity ≡ true
   below_one : le frame.method.monotonicity almost_one ≡ true
   seam : seam_modest frame.seam ≡ true
   period : (i : ℕ) → i < length x - 1 → period_modest x y i ≡ true
@@ -83,7 +83,7 @@ parts x y frame h =
     record {
       first = ends.0;
       last = ends.1;
-      from_zero_lem = settings.0;
+      from_zero = settings.0;
       below_one = settings.1;
       seam = c.0;
       period = all_at (length x - 1) (period_modest x y) c.1;
