@@ -1,7 +1,7 @@
 -- 02, K9: the three last slots of every record that `grow` leaves: those of a build with the seam that it carries.
 use mathlib.Core.Bool.{Bool, true, false}
 use mathlib.Core.List.{List}
-use mathlib.Core.Path.{◌≡◌, refl, sym, ap, ◌∙◌}
+use mathlib.Core.Path.{◌≡◌, ap}
 use lib.Ieee.{Float}
 use lib.ListN.{length}
 use Rattle.numbers.specs.OneOutcome.{Follows}
