@@ -1,6 +1,6 @@
 -- Build's tests over the knots of periods: those of the knots always pass, and of the others only the averages, the settings, the seam and the room
 -- are asked about.
-use Prim.Native.Nat.{ℕ, ◌-◌}
+use Prim.Native.Nat.{ℕ}
 use mathlib.Core.Bool.{Bool, true, false, not, cond}
 use mathlib.Core.List.{List, [], ◌∷◌}
 use mathlib.Core.Path.{◌≡◌, refl, sym, subst, ◌∙◌}
