@@ -159,4 +159,4 @@ module _ (x y : List Float) (cuts : List ℕ) (t : CutTable x y cuts) where
         by (inr u) = let e : j ≡ length cuts = omega (arith, l, u) in inl (finish_last n cuts j e, rw (eq-eqb j (length cuts) e))
 
     pub fair : Fair x y method own
-    fair = let (a, b) = stretch j l in record { rising = a; inside = b; left_end_lem = left_end_lem; right_end = right_end; total = refl }
+    fair = let (a, b) = stretch j l in record { rising = a; inside = b; left_end = left_end_lem; right_end = right_end; total = refl }

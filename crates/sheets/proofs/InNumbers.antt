@@ -18,7 +18,6 @@ use Rattle.curve.specs.declared.curve.Built.{Built}
 use Rattle.curve.specs.declared.curve.Built.TheVariants as built
 use Rattle.curve.proofs.InNumbers.{built_number}
 use Rattle.sheets.specs.Cuts.{cuts_fit}
-use Rattle.sheets.specs.InSheets.{in_sheets_outcome}
 use Rattle.sheets.specs.Sheet.{sheet_verdict, sheet_in_numbers}
 use Rattle.sheets.specs.declared.sheet.SheetBuilt.{SheetBuilt}
 use Rattle.sheets.specs.declared.sheet.SheetBuilt.TheVariants as sheet-built

@@ -1,5 +1,5 @@
 -- Steps of `sheet`: the order of its refusals, and a part of a buffer that is written by itself.
-use Prim.Native.Nat.{ℕ, ◌+◌, ◌-◌, ◌*◌, ◌/◌, ◌≤◌, ◌<◌}
+use Prim.Native.Nat.{ℕ, ◌-◌, ◌*◌, ◌/◌, ◌≤◌, ◌<◌}
 use native.Mathlib.Omega.{arith}
 use native.Mathlib.Nat.{le_refl, add-zero}
 use mathlib.Core.Bool.{Bool, true, false, not, ◌&&◌, ◌||◌}
