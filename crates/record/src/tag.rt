@@ -65,6 +65,7 @@ const CONVEX_MONOTONE4_MIN: u16 = OTHER_CODE * 6;
 const CONVEX_MONOTONE4_MIN_SPLIT: u16 = CONVEX_MONOTONE4_MIN + OTHER_SPLIT;
 
 // The kind of the quadratic part that a tag names, by the bits from its split on.
+#[tactic(auto, using(std::proofs::lemmas::Bool::Decides::nat_tests), unfolding(crate::specs::Tag::quadratic_named))]
 pub(crate) fn quadratic_named(tag: u16) -> QuadraticKind
     ensures { result ≡ quadratic_named tag }
 {
@@ -78,6 +79,7 @@ pub(crate) fn quadratic_named(tag: u16) -> QuadraticKind
 }
 
 // The kind of the other part, by all bits below those.
+#[tactic(auto, using(std::proofs::lemmas::Bool::Decides::nat_tests), unfolding(crate::specs::Tag::other_named))]
 pub(crate) fn other_named(tag: u16) -> OtherKind
     ensures { result ≡ other_named tag }
 {

@@ -1,4 +1,5 @@
 -- In each arm the kind is known.
+use borrow.Author.Rules.{rules}
 use Rattle.section.specs.Section.{value}
 use Rattle.record.specs.Reading.{other_from}
 use Rattle.record.specs.Steps.{other_number}
@@ -10,31 +11,31 @@ returns-in-Absent c = rw c.in-Absent.is
 
 pub returns-in-EverywhereConstant : goal.returns-in-EverywhereConstant
 unfolding other_from other_number value
-returns-in-EverywhereConstant c = rw (c.in-EverywhereConstant.is, c.value.ensures, c.constant_in.ensures)
+returns-in-EverywhereConstant c = search rules
 
 pub returns-in-ConstantGrad : goal.returns-in-ConstantGrad
 unfolding other_from other_number value
-returns-in-ConstantGrad c = rw (c.in-ConstantGrad.is, c.value-in-ConstantGrad.ensures, c.gradient_in.ensures)
+returns-in-ConstantGrad c = search rules
 
 pub returns-in-ConvexMonotone2 : goal.returns-in-ConvexMonotone2
 unfolding other_from other_number value
-returns-in-ConvexMonotone2 c = rw (c.in-ConvexMonotone2.is, c.value-in-ConvexMonotone2.ensures, c.second_in.ensures)
+returns-in-ConvexMonotone2 c = search rules
 
 pub returns-in-ConvexMonotone3 : goal.returns-in-ConvexMonotone3
 unfolding other_from other_number value
-returns-in-ConvexMonotone3 c = rw (c.in-ConvexMonotone3.is, c.value-in-ConvexMonotone3.ensures, c.third_in.ensures)
+returns-in-ConvexMonotone3 c = search rules
 
 pub returns-in-ConvexMonotone4 : goal.returns-in-ConvexMonotone4
 unfolding other_from other_number value
-returns-in-ConvexMonotone4 c = rw (c.in-ConvexMonotone4.is, c.value-in-ConvexMonotone4.ensures, c.fourth_in.ensures)
+returns-in-ConvexMonotone4 c = search rules
 
 pub returns-in-ConvexMonotone4Min : goal.returns-in-ConvexMonotone4Min
 unfolding other_from other_number value
-returns-in-ConvexMonotone4Min c = rw (c.in-ConvexMonotone4Min.is, c.value-in-ConvexMonotone4Min.ensures, c.fourth_min_in.ensures)
+returns-in-ConvexMonotone4Min c = search rules
 
 pub returns-in-ConvexMonotone4MinSplit : goal.returns-in-ConvexMonotone4MinSplit
 unfolding other_from other_number value
-returns-in-ConvexMonotone4MinSplit c = rw (c.in-ConvexMonotone4MinSplit.is, c.value-in-ConvexMonotone4MinSplit.ensures, c.fourth_min_in-in-ConvexMonotone4MinSplit.ensures)
+returns-in-ConvexMonotone4MinSplit c = search rules
 
 pub returns-in-Unknown : goal.returns-in-Unknown
 unfolding other_from other_number value

@@ -1,5 +1,5 @@
--- `ordinary::are_of_size` meets its contract. The invariant: the flag is the test of the first i slots.
-use Prim.Native.Nat.{◌-◌, ◌≤◌}
+-- The flag is the test of the first i slots.
+use Prim.Native.Nat.{◌≤◌}
 use mathlib.Core.Path.{◌≡◌}
 use lib.ListN.{length}
 use Rattle.numbers.specs.Every.{all_below}
@@ -10,6 +10,3 @@ use Rattle.record.proofs.ordinary.are_of_size.Given as goal
 
 abbrev pub invariant-loop-i : goal.invariant-loop-i
 invariant-loop-i l = (l.i ≤ field_count) × (field_count ≤ length l.slots) × (l.all ≡ all_below l.i (λ k. ordinary_size (slot l.slots k)))
-
-abbrev pub decreases-loop-i : goal.decreases-loop-i
-decreases-loop-i l = field_count - l.i
