@@ -1,6 +1,5 @@
 -- 02, K1. A strip by its parts: what refuses it, and its number where nothing does.
-use Prim.Native.Nat.{ℕ, zero, suc, ◌+◌, ◌-◌, ◌<◌}
-use native.Mathlib.Omega.{arith}
+use Prim.Native.Nat.{ℕ, ◌<◌}
 use mathlib.Core.Bool.{Bool, true, false, cond}
 use mathlib.Core.List.{List}
 use mathlib.Core.Path.{◌≡◌, refl, sym, ap, ◌∙◌}
@@ -12,16 +11,14 @@ use Rattle.numbers.specs.Words.{◌⊖◌, ◌⊘◌}
 use Rattle.numbers.proofs.Overlay.{overlay_same}
 use Rattle.numbers.proofs.Ways.{never}
 use Rattle.section.specs.Section.{primitive}
-use Rattle.section.specs.declared.section.Section.{Section}
 use Rattle.refusal.specs.Refusal.{first, and_then}
 use Rattle.refusal.specs.declared.Refusal.{Refusal}
 use Rattle.refusal.specs.declared.Refusal.TheVariants.{StripEndsNotRising}
 use Rattle.refusal.specs.declared.Verdict.{Verdict}
 use Rattle.refusal.specs.declared.Verdict.TheVariants.{Accepted, Refused}
 use Rattle.refusal.proofs.First.{first_append}
-use Rattle.table.specs.Table.{at}
 use Rattle.curve.specs.declared.curve.Curve.{Curve}
-use Rattle.query.specs.Many.{or_next, at_place, first_refused, many_tests, of_all, formula_at, many_by}
+use Rattle.query.specs.Many.{or_next, many_tests, of_all, formula_at, many_by}
 use Rattle.query.specs.Query.{curve_tests, point_tests, covering, covered_of, covered_at, ask, number_in, verdict_in}
 use Rattle.query.specs.Strip.{strip_of, total_to, strip_at, strips_verdict, strips_after, strips_outcome}
 use Rattle.query.specs.declared.answer.Covered.{Covered}

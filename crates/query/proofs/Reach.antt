@@ -1,10 +1,10 @@
 -- A curve of ordinary size: every point that it may be asked for gets a finite number, and so does every strip whose ends are apart.
 use Prim.Native.Nat.{ℕ, ◌-◌, ◌*◌, ◌≤◌}
 use native.Mathlib.Omega.{arith}
-use mathlib.Core.Bool.{Bool, true, false, cond, not, ◌&&◌}
+use mathlib.Core.Bool.{Bool, true, false, cond, ◌&&◌}
 use mathlib.Core.List.{List}
 use mathlib.Core.Path.{◌≡◌, refl, sym, ap, ◌∙◌}
-use lib.Ieee.{Float, neg, lt, le, ne}
+use lib.Ieee.{Float, neg, lt, le}
 use lib.ListN.{length, get_or, take, drop}
 use Rattle.numbers.specs.Every.{all_below}
 use Rattle.numbers.specs.Marks.{mark}
