@@ -15,7 +15,7 @@ use lib.Ieee.{Float, lt, le}
 use lib.ListN.{length, get_or, take, drop}
 use Rattle.numbers.specs.Marks.{mark}
 use Rattle.numbers.specs.Sizes.{slot_count}
-use Rattle.numbers.specs.Words.{zero, one, finite}
+use Rattle.numbers.specs.Words.{zero, finite}
 use Rattle.numbers.proofs.Every.{and_right_false}
 use Rattle.numbers.proofs.Monotone.{finite_number, not_both}
 use Rattle.numbers.proofs.Totals.{Total, all_of_first, all_of_second}
@@ -23,7 +23,6 @@ use Rattle.numbers.proofs.Ways.{of_both, of_each}
 use Rattle.section.specs.Section.{primitive}
 use Rattle.section.specs.declared.section.Section.{Section}
 use Rattle.section.specs.declared.section.Section.TheVariants as section
-use Rattle.record.specs.Knots.{total_after}
 use Rattle.record.specs.Number.{answer_in, or_zero}
 use Rattle.record.specs.Slots.{record_of, slots_of}
 use Rattle.record.specs.Tag.{tag_of}
@@ -31,7 +30,6 @@ use Rattle.record.specs.Unusual.{unusual_split}
 use Rattle.record.specs.declared.reading.Found.{Found}
 use Rattle.refusal.specs.declared.Verdict.TheVariants as verdict
 use Rattle.table.specs.Buffers.{Buffers}
-use Rattle.table.specs.Check.{all_finite, rising}
 use Rattle.table.specs.Sound.{Sound, Room}
 use Rattle.table.specs.Table.{at, total_at}
 use Rattle.table.specs.declared.ends.Frame.{Frame}

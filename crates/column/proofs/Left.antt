@@ -10,7 +10,7 @@ use lib.ListN.{length}
 use Rattle.refusal.specs.declared.Refusal.{Refusal}
 use Rattle.refusal.specs.declared.Verdict.{Verdict}
 use Rattle.refusal.specs.declared.Verdict.TheVariants as verdict
-use Rattle.table.specs.Buffers.{Buffers, Outcome, buffers, outcome, judged}
+use Rattle.table.specs.Buffers.{Buffers, Outcome, outcome, judged}
 use Rattle.table.specs.declared.method.ConvexMonotone.{ConvexMonotone}
 use Rattle.table.specs.declared.ends.Seam.{Seam}
 use Rattle.table.proofs.Outcomes.{was_accepted}

@@ -1,9 +1,9 @@
 -- 02, K1: how far strips between adjoining places telescope.
-use Prim.Native.Nat.{ℕ, ◌<◌}
+use Prim.Native.Nat.{ℕ}
 use mathlib.Core.Bool.{true}
 use mathlib.Core.List.{List}
 use mathlib.Core.Path.{◌≡◌, refl, ap, ◌∙◌}
-use lib.Ieee.{Float, add, sub, mul, div, neg, lt, le, of_bits}
+use lib.Ieee.{Float, add, sub, mul, div, lt, le, of_bits}
 use lib.ListN.{length}
 use Rattle.numbers.specs.Every.{all_below}
 use Rattle.numbers.specs.Words.{◌⊕◌, ◌⊖◌, ◌⊘◌, finite}

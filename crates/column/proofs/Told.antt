@@ -15,7 +15,7 @@ use Rattle.section.specs.declared.convex_monotone_part.ConvexMonotonePart.{Conve
 use Rattle.section.specs.declared.convex_monotone_part.ConvexMonotonePart.TheVariants as convex
 use Rattle.section.specs.declared.section.Section.{Section}
 use Rattle.section.specs.declared.section.Section.TheVariants as section
-use Rattle.record.specs.Slots.{slots_of, quadratic_slots, convex_slots, layout, record_of}
+use Rattle.record.specs.Slots.{slots_of, quadratic_slots, convex_slots, record_of}
 use Rattle.record.specs.Tag.{quadratic_bits, other_bits, quadratic_tag, convex_tag, tag_of, quadratic_split_tag, other_split_tag, split_tag}
 use Rattle.record.specs.Unusual.{unusual_split}
 use Rattle.record.specs.declared.tag.QuadraticKind.TheVariants as quadratic_kind
