@@ -18,7 +18,6 @@ use Rattle.curve.specs.declared.curve.Curve.{Curve}
 use Rattle.query.specs.Many.{many_tests}
 use Rattle.query.specs.Query.{curve_tests, point_tests, query_tests, covering, covered_of, covered_at, ask, number_in, verdict_in, answer_by}
 use Rattle.query.specs.declared.answer.QueryAnswer.{QueryAnswer}
-use Rattle.query.specs.declared.answer.QueryAnswer.TheVariants as query-answer
 use Rattle.export_query.specs.Asking.{asked_by, left_of, left_by, answer_into}
 
 -- a query's answer, by what refuses it: refused, or written

@@ -8,7 +8,7 @@ use lib.ListN.{length}
 use Rattle.numbers.specs.OneOutcome.{Follows, pair}
 use Rattle.refusal.specs.Refusal.{number}
 use Rattle.refusal.specs.declared.Refusal.TheVariants.{BufferTooShort}
-use Rattle.order.specs.Answer.{text_of, answered, order_in_numbers}
+use Rattle.order.specs.Answer.{text_of, order_in_numbers}
 use Rattle.order.specs.declared.answer.OrderAnswer.{OrderAnswer}
 use Rattle.order.specs.declared.answer.OrderAnswer.TheVariants as order-answer
 use Rattle.order.proofs.answer.answer.Reads as answer
