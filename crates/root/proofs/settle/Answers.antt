@@ -7,5 +7,6 @@ use borrow.Author.Rules.{rules}
 use Rattle.root.proofs.Neighbours.{steps, squares, answer}
 use Rattle.root.proofs.settle.Goals as goal
 
+-- The last test has the span's number in its name, so what it says is looked up.
 pub returns : goal.returns
-returns c = inr (answer c.args.s c.args.g c.requires.0 c.requires.1 c.requires.2 c.if-top-whole.false c.if-above-gt1534.false)
+returns c = inr (answer c.args.s c.args.g c.requires.0 c.requires.1 c.requires.2 c.if-top-whole.false (search rules))
