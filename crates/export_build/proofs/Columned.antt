@@ -1,13 +1,13 @@
 -- What crosses the boundary of a curve with its column.
 use Prim.Native.Nat.{ℕ}
-use mathlib.Core.Bool.{Bool, true, false, cond}
+use mathlib.Core.Bool.{Bool, true, false}
 use mathlib.Core.List.{List}
 use mathlib.Core.Path.{◌≡◌, refl, ap, ◌∙◌}
 use lib.Dec.{ltb}
 use lib.Ieee.{Float}
 use lib.ListN.{length}
 use Rattle.refusal.specs.Refusal.{number}
-use Rattle.refusal.specs.declared.Refusal.TheVariants.{BufferTooShort, SplitUnknown}
+use Rattle.refusal.specs.declared.Refusal.TheVariants.{SplitUnknown}
 use Rattle.table.specs.Buffers.{Buffers, Outcome}
 use Rattle.curve.specs.Curve.{curve_in_numbers}
 use Rattle.curve.specs.declared.curve.Built.{Built}

@@ -1,0 +1,23 @@
+-- As `havgrunel_build` does.
+use mathlib.Core.Path.{sym, ap, ◌∙◌}
+use borrow.Author.Tests.{le-ltb}
+use Rattle.table.specs.Buffers.{Outcome, buffers}
+use Rattle.curve.specs.Build.{build_outcome}
+use Rattle.curve.specs.declared.curve.Built.{Built}
+use Rattle.column.specs.Column.{with_column}
+use Rattle.export_build.specs.Building.{seam_of, short_refusal}
+use Rattle.export_build.specs.Settings.{unknown, method_of}
+use Rattle.export_build.proofs.Across.{build_last, same_build}
+use Rattle.export_build.proofs.Columned.{column_short, short_with}
+use Rattle.export_build.proofs.columns.havgrunel_build_with_column.Goals as goal
+
+pub returns-then-no_answer : goal.returns-then-no_answer
+returns-then-no_answer c =
+    let a = c.args in
+    let b = buffers a.nodes.now a.tags.now a.slots.now in
+    let o = build_outcome a.knots.now a.averages.now (method_of a.quadraticity a.monotonicity a.positive a.split) a.hold (seam_of a.seamed a.seam_count a.seam_node) b in
+    column_short (unknown a.split) (le-ltb _ _ c.if-split-gt2.false) b a.sections.now a.tail.now a.column.now (with_column a.knots.now b a.column.now o) _
+    (sym c.no_answer.ensures ∙ c.if-no_answer.true)
+    (build_last a.knots.now a.averages.now c.method_of-method.result a.hold c.seam_of-seam.result b _ _ c.build_verdict.ensures c.last_refusal.ensures
+    ∙ ap (λ (p : Outcome Built). short_refusal p.answer) (same_build a.knots.now a.averages.now _ _ a.hold _ _ b c.method_of-method.ensures c.seam_of-seam.ensures)
+    ∙ short_with a.knots.now b a.column.now o)
