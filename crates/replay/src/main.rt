@@ -19,9 +19,11 @@ mod strips;
 mod tables;
 mod words;
 
-ghost use Rattle.std.specs.Prelude.{◌≡◌, length};
+ghost use Rattle.std.specs.Prelude.{◌≡◌, ◌≤◌, IfOk, length};
 
 use crate::seen::{Curves, Seen, Sheets};
+use std::io;
+use std::io::Read;
 
 // Room for the whole file of answers.
 fn room() -> [u8; 1048576]
@@ -30,86 +32,99 @@ fn room() -> [u8; 1048576]
     [0; 1048576]
 }
 
-fn print_count(name: &[u8], n: u64) {
-    io::write_all(1, name);
-    io::print_decimal(1, n);
-    io::write_all(1, b"\n");
+// Reads until the buffer is full or the input ends, and tells how many bytes it put at the buffer's start.
+fn read_full<R: Read>(reader: &mut R, buffer: &mut [u8]) -> io::Result<usize>
+    ensures { IfOk result (λ n. n ≤ length buffer.new) }
+{
+    let mut done = 0;
+    while done < buffer.len() {
+        let n = reader.read(&mut buffer[done..])?;
+        if n == 0 {
+            break;
+        }
+        done += n;
+    }
+    Ok(done)
 }
 
-fn print_convex(n: [u64; seen::KINDS]) {
-    print_count(b"sections ConvexMonotone2 ", n[2]);
-    print_count(b"sections ConvexMonotone3 ", n[3]);
-    print_count(b"sections ConvexMonotone4 ", n[4]);
-    print_count(b"sections ConvexMonotone4Min ", n[5]);
-    print_count(b"sections ConvexMonotone4Min split ", n[9]);
+fn print_count(out: &impl Print, name: &str, n: u64) -> io::Result<()> {
+    println!(out; "{name} {n}")
 }
 
-fn print_quadratic(n: [u64; seen::KINDS]) {
-    print_count(b"sections Quadratic ", n[6]);
-    print_count(b"sections QuadraticMin ", n[7]);
-    print_count(b"sections QuadraticMin split ", n[10]);
+fn print_convex(out: &impl Print, n: [u64; seen::KINDS]) -> io::Result<()> {
+    print_count(out, "sections ConvexMonotone2", n[2])?;
+    print_count(out, "sections ConvexMonotone3", n[3])?;
+    print_count(out, "sections ConvexMonotone4", n[4])?;
+    print_count(out, "sections ConvexMonotone4Min", n[5])?;
+    print_count(out, "sections ConvexMonotone4Min split", n[9])
 }
 
-fn print_sections(n: [u64; seen::KINDS]) {
-    print_count(b"sections EverywhereConstant ", n[0]);
-    print_count(b"sections ConstantGrad ", n[1]);
-    print_convex(n);
-    print_quadratic(n);
-    print_count(b"sections Combination ", n[8]);
+fn print_quadratic(out: &impl Print, n: [u64; seen::KINDS]) -> io::Result<()> {
+    print_count(out, "sections Quadratic", n[6])?;
+    print_count(out, "sections QuadraticMin", n[7])?;
+    print_count(out, "sections QuadraticMin split", n[10])
 }
 
-fn print_built(n: Curves) {
-    print_count(b"builds ", n.asked);
-    print_count(b"builds refused ", n.refused);
-    print_count(b"curves ", n.made);
-    print_count(b"curve records ", n.records);
-    print_count(b"curve knots ", n.knots);
-    print_count(b"curve column entries ", n.totals);
-    print_count(b"curve queries ", n.queries);
-    print_count(b"curve strips ", n.strips);
-    print_count(b"curve strips between knots ", n.between);
-    print_count(b"curve strips in runs ", n.run);
+fn print_sections(out: &impl Print, n: [u64; seen::KINDS]) -> io::Result<()> {
+    print_count(out, "sections EverywhereConstant", n[0])?;
+    print_count(out, "sections ConstantGrad", n[1])?;
+    print_convex(out, n)?;
+    print_quadratic(out, n)?;
+    print_count(out, "sections Combination", n[8])
 }
 
-fn print_grown(n: Curves) {
-    print_count(b"growths ", n.asked);
-    print_count(b"growths refused ", n.refused);
-    print_count(b"grown curves ", n.made);
-    print_count(b"grown records ", n.records);
-    print_count(b"grown knots ", n.knots);
-    print_count(b"grown column entries ", n.totals);
-    print_count(b"grown queries ", n.queries);
-    print_count(b"grown strips ", n.strips);
-    print_count(b"grown strips between knots ", n.between);
-    print_count(b"grown strips in runs ", n.run);
+fn print_built(out: &impl Print, n: Curves) -> io::Result<()> {
+    print_count(out, "builds", n.asked)?;
+    print_count(out, "builds refused", n.refused)?;
+    print_count(out, "curves", n.made)?;
+    print_count(out, "curve records", n.records)?;
+    print_count(out, "curve knots", n.knots)?;
+    print_count(out, "curve column entries", n.totals)?;
+    print_count(out, "curve queries", n.queries)?;
+    print_count(out, "curve strips", n.strips)?;
+    print_count(out, "curve strips between knots", n.between)?;
+    print_count(out, "curve strips in runs", n.run)
 }
 
-fn print_sheets(n: Sheets) {
-    print_count(b"tables in sheets ", n.made);
-    print_count(b"tables in sheets refused ", n.refused);
+fn print_grown(out: &impl Print, n: Curves) -> io::Result<()> {
+    print_count(out, "growths", n.asked)?;
+    print_count(out, "growths refused", n.refused)?;
+    print_count(out, "grown curves", n.made)?;
+    print_count(out, "grown records", n.records)?;
+    print_count(out, "grown knots", n.knots)?;
+    print_count(out, "grown column entries", n.totals)?;
+    print_count(out, "grown queries", n.queries)?;
+    print_count(out, "grown strips", n.strips)?;
+    print_count(out, "grown strips between knots", n.between)?;
+    print_count(out, "grown strips in runs", n.run)
 }
 
-fn print(seen: Seen) {
-    print_count(b"defaults ", seen.defaults);
-    print_count(b"roots ", seen.roots);
+fn print_sheets(out: &impl Print, n: Sheets) -> io::Result<()> {
+    print_count(out, "tables in sheets", n.made)?;
+    print_count(out, "tables in sheets refused", n.refused)
+}
+
+fn print(out: &impl Print, seen: Seen) -> io::Result<()> {
+    print_count(out, "defaults", seen.defaults)?;
+    print_count(out, "roots", seen.roots)?;
     let sections = seen.sections;
-    print_sections(sections);
-    print_count(b"records ", seen.records);
-    print_count(b"queries ", seen.queries);
+    print_sections(out, sections)?;
+    print_count(out, "records", seen.records)?;
+    print_count(out, "queries", seen.queries)?;
     let built = seen.built;
-    print_built(built);
+    print_built(out, built)?;
     let grown = seen.grown;
-    print_grown(grown);
+    print_grown(out, grown)?;
     let sheets = seen.sheets;
-    print_sheets(sheets);
-    print_count(b"numbers that are not finite ", seen.not_finite);
-    print_count(b"runs refused for such a number ", seen.runs_refused);
-    print_count(b"lines of no known kind ", seen.strange);
-    print_count(b"mismatches ", seen.mismatches);
+    print_sheets(out, sheets)?;
+    print_count(out, "numbers that are not finite", seen.not_finite)?;
+    print_count(out, "runs refused for such a number", seen.runs_refused)?;
+    print_count(out, "lines of no known kind", seen.strange)?;
+    print_count(out, "mismatches", seen.mismatches)
 }
 
-fn main() {
+fn main(rt: HostRuntime) -> io::Result<()> {
     let mut text = room();
-    let n = io::read_full(0, &mut text);
-    print(file::replay(&text[..n]));
+    let n = read_full(&mut rt.reader(), &mut text)?;
+    print(&rt, file::replay(&text[..n]))
 }
