@@ -65,8 +65,7 @@ pub(crate) fn write_answer(built: Built, sections: &mut [usize], tail: &mut [f64
 
 // Builds the curve of a table. Nodes, tags and slots are written from the start of the lent buffers, the count of sections into `sections`, and
 // its tail (value, total, from) into `tail`.
-#[unsafe(no_mangle)]
-pub extern "C" fn havgrunel_build(
+pub fn havgrunel_build(
     knots: &[f64],
     averages: &[f64],
     quadraticity: f64,

@@ -51,8 +51,7 @@ fn after_months(first: i64, last: i64, size: Size, other: Refusal) -> u8
 }
 
 // Writes the knots of the periods of so many months, 1, 3 or 12, from a first to a last month, January 2000 being 0, and how many they are into `count`.
-#[unsafe(no_mangle)]
-pub extern "C" fn havgrunel_month_knots(
+pub fn havgrunel_month_knots(
     first: i64,
     last: i64,
     months: u8,
@@ -78,8 +77,7 @@ pub extern "C" fn havgrunel_month_knots(
 }
 
 // Builds the curve of those periods as `havgrunel_build` does of their knots, and writes the knots too.
-#[unsafe(no_mangle)]
-pub extern "C" fn havgrunel_build_months(
+pub fn havgrunel_build_months(
     first: i64,
     last: i64,
     months: u8,

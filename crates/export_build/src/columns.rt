@@ -17,8 +17,7 @@ use curve::build::build_verdict;
 use refusal::Refusal;
 
 // Builds the curve of a table as `havgrunel_build` does, and writes the total up to each knot into the first entries of `column`.
-#[unsafe(no_mangle)]
-pub extern "C" fn havgrunel_build_with_column(
+pub fn havgrunel_build_with_column(
     knots: &[f64],
     averages: &[f64],
     quadraticity: f64,
@@ -61,8 +60,7 @@ pub extern "C" fn havgrunel_build_with_column(
 }
 
 // Builds the next curve of a table that grows as `havgrunel_grow` does, with its column.
-#[unsafe(no_mangle)]
-pub extern "C" fn havgrunel_grow_with_column(
+pub fn havgrunel_grow_with_column(
     knots: &[f64],
     averages: &[f64],
     quadraticity: f64,

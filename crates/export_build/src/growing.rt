@@ -69,8 +69,7 @@ pub(crate) fn refusal_of(
 
 // Builds the next curve of a table that grows. `grown` says whether there is a previous curve; `previous_sections` and `previous_held` are its count
 // of sections and whether its last period was held.
-#[unsafe(no_mangle)]
-pub extern "C" fn havgrunel_grow(
+pub fn havgrunel_grow(
     knots: &[f64],
     averages: &[f64],
     quadraticity: f64,

@@ -37,8 +37,7 @@ fn cut_refusal(
 
 // Builds the curve of a table in sheets that end at the cuts, which are inner knots in rising order, counted from 0. All that is returned and written is
 // as for `havgrunel_build` with no held period and no seam.
-#[unsafe(no_mangle)]
-pub extern "C" fn havgrunel_build_in_sheets(
+pub fn havgrunel_build_in_sheets(
     knots: &[f64],
     averages: &[f64],
     quadraticity: f64,

@@ -14,14 +14,7 @@ use table::ends::End;
 
 // The node at an inner knot, from its neighbours and the averages of the periods that end at it and at the knot after it: what the sheets on both
 // sides of a cut are given.
-#[unsafe(no_mangle)]
-pub extern "C" fn havgrunel_inner_node(
-    before: f64,
-    here: f64,
-    after: f64,
-    average: f64,
-    next: f64,
-) -> f64
+pub fn havgrunel_inner_node(before: f64, here: f64, after: f64, average: f64, next: f64) -> f64
     ensures { result ≡ inner before here after average next }
 {
     assembly::nodes::inner(before, here, after, average, next)
@@ -58,8 +51,7 @@ fn write_end(built: SheetBuilt, answer: &mut [f64]) -> u8
 
 // Builds a part of a table into the whole's buffers, from `place` on. A node that is given stands for the one at its end, and the totals go on from
 // `start`. Into `answer` go the total after the sheet and the tail (value, total, from): three +0.0 where a right node is given.
-#[unsafe(no_mangle)]
-pub extern "C" fn havgrunel_sheet(
+pub fn havgrunel_sheet(
     knots: &[f64],
     averages: &[f64],
     quadraticity: f64,

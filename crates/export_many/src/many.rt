@@ -10,8 +10,7 @@ use query::answer::{ManyInNumbers, curve_with};
 
 // The price at each x, into the first entries of `answers`; where any x is refused, so are all, and nothing is written. The answer tells which x was
 // refused first, counted from 0, or how many there are where none was.
-#[unsafe(no_mangle)]
-pub extern "C" fn havgrunel_values(
+pub fn havgrunel_values(
     knots: &[f64],
     tags: &[u16],
     slots: &[f64],
@@ -29,8 +28,7 @@ pub extern "C" fn havgrunel_values(
 }
 
 // The total of all prices up to each x, in the same way.
-#[unsafe(no_mangle)]
-pub extern "C" fn havgrunel_primitives(
+pub fn havgrunel_primitives(
     knots: &[f64],
     tags: &[u16],
     slots: &[f64],

@@ -35,8 +35,7 @@ fn short_refusal(knots: &[f64], tags: usize, slots: usize) -> u8
 }
 
 // The price at x, into the first entry of `answer`.
-#[unsafe(no_mangle)]
-pub extern "C" fn havgrunel_value(
+pub fn havgrunel_value(
     knots: &[f64],
     tags: &[u16],
     slots: &[f64],
@@ -57,8 +56,7 @@ pub extern "C" fn havgrunel_value(
 }
 
 // The total of all prices up to x, into the first entry of `answer`.
-#[unsafe(no_mangle)]
-pub extern "C" fn havgrunel_primitive(
+pub fn havgrunel_primitive(
     knots: &[f64],
     tags: &[u16],
     slots: &[f64],
@@ -82,8 +80,7 @@ pub extern "C" fn havgrunel_primitive(
 }
 
 // The method has no derivative: whatever x is, the refusal's number comes back.
-#[unsafe(no_mangle)]
-pub extern "C" fn havgrunel_derivative(x: f64) -> u8
+pub fn havgrunel_derivative(x: f64) -> u8
     ensures { result ≡ number Refusal.DerivativeAsked }
 {
     query::answer::derivative(x).in_numbers().refusal

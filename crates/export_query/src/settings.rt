@@ -4,43 +4,37 @@ ghost use Rattle.table.specs.Method.{defaults, gas};
 
 use table::method::ConvexMonotone;
 
-#[unsafe(no_mangle)]
-pub extern "C" fn havgrunel_default_quadraticity() -> f64
+pub fn havgrunel_default_quadraticity() -> f64
     ensures { result ≡ defaults.quadraticity }
 {
     ConvexMonotone::defaults().quadraticity
 }
 
-#[unsafe(no_mangle)]
-pub extern "C" fn havgrunel_default_monotonicity() -> f64
+pub fn havgrunel_default_monotonicity() -> f64
     ensures { result ≡ defaults.monotonicity }
 {
     ConvexMonotone::defaults().monotonicity
 }
 
-#[unsafe(no_mangle)]
-pub extern "C" fn havgrunel_default_positivity() -> bool
+pub fn havgrunel_default_positivity() -> bool
     ensures { result ≡ defaults.force_positive }
 {
     ConvexMonotone::defaults().force_positive
 }
 
-#[unsafe(no_mangle)]
-pub extern "C" fn havgrunel_gas_quadraticity() -> f64
+pub fn havgrunel_gas_quadraticity() -> f64
     ensures { result ≡ gas.quadraticity }
 {
     ConvexMonotone::gas().quadraticity
 }
 
-#[unsafe(no_mangle)]
-pub extern "C" fn havgrunel_gas_monotonicity() -> f64
+pub fn havgrunel_gas_monotonicity() -> f64
     ensures { result ≡ gas.monotonicity }
 {
     ConvexMonotone::gas().monotonicity
 }
 
-#[unsafe(no_mangle)]
-pub extern "C" fn havgrunel_gas_positivity() -> bool
+pub fn havgrunel_gas_positivity() -> bool
     ensures { result ≡ gas.force_positive }
 {
     ConvexMonotone::gas().force_positive

@@ -2,8 +2,7 @@
 ghost use Rattle.std.specs.Prelude.{◌≡◌};
 ghost use Rattle.root.specs.Root.{root};
 
-#[unsafe(no_mangle)]
-pub extern "C" fn havgrunel_sqrt(a: f64) -> f64
+pub fn havgrunel_sqrt(a: f64) -> f64
     ensures { result ≡ root a }
 {
     root::sqrt(a)

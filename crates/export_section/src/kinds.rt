@@ -34,8 +34,7 @@ fn put(section: Section, tag: &mut [u16], slots: &mut [f64]) -> u8
 }
 
 // A constant section: its value everywhere.
-#[unsafe(no_mangle)]
-pub extern "C" fn havgrunel_everywhere_constant(
+pub fn havgrunel_everywhere_constant(
     value: f64,
     prev_primitive: f64,
     x_prev: f64,
@@ -49,8 +48,7 @@ pub extern "C" fn havgrunel_everywhere_constant(
 }
 
 // A straight line from one node to the next.
-#[unsafe(no_mangle)]
-pub extern "C" fn havgrunel_constant_grad(
+pub fn havgrunel_constant_grad(
     f_prev: f64,
     prev_primitive: f64,
     x_prev: f64,
@@ -66,8 +64,7 @@ pub extern "C" fn havgrunel_constant_grad(
 }
 
 // Level, then a parabola.
-#[unsafe(no_mangle)]
-pub extern "C" fn havgrunel_convex_monotone2(
+pub fn havgrunel_convex_monotone2(
     x_prev: f64,
     x_next: f64,
     g_prev: f64,
@@ -93,8 +90,7 @@ pub extern "C" fn havgrunel_convex_monotone2(
 }
 
 // A parabola, then level.
-#[unsafe(no_mangle)]
-pub extern "C" fn havgrunel_convex_monotone3(
+pub fn havgrunel_convex_monotone3(
     x_prev: f64,
     x_next: f64,
     g_prev: f64,
@@ -120,8 +116,7 @@ pub extern "C" fn havgrunel_convex_monotone3(
 }
 
 // Two parabolas that meet.
-#[unsafe(no_mangle)]
-pub extern "C" fn havgrunel_convex_monotone4(
+pub fn havgrunel_convex_monotone4(
     x_prev: f64,
     x_next: f64,
     g_prev: f64,
@@ -147,8 +142,7 @@ pub extern "C" fn havgrunel_convex_monotone4(
 }
 
 // The same, split where it would fall below zero.
-#[unsafe(no_mangle)]
-pub extern "C" fn havgrunel_convex_monotone4_min(
+pub fn havgrunel_convex_monotone4_min(
     x_prev: f64,
     x_next: f64,
     g_prev: f64,
@@ -174,8 +168,7 @@ pub extern "C" fn havgrunel_convex_monotone4_min(
 }
 
 // The same, flat at its average where it would be squeezed to next to nothing.
-#[unsafe(no_mangle)]
-pub extern "C" fn havgrunel_convex_monotone4_min_safe(
+pub fn havgrunel_convex_monotone4_min_safe(
     x_prev: f64,
     x_next: f64,
     g_prev: f64,
@@ -201,8 +194,7 @@ pub extern "C" fn havgrunel_convex_monotone4_min_safe(
 }
 
 // The parabola through two nodes with the average.
-#[unsafe(no_mangle)]
-pub extern "C" fn havgrunel_quadratic(
+pub fn havgrunel_quadratic(
     x_prev: f64,
     x_next: f64,
     f_prev: f64,
@@ -219,8 +211,7 @@ pub extern "C" fn havgrunel_quadratic(
 }
 
 // The same, shortened and split where both tests of the original's rule pass.
-#[unsafe(no_mangle)]
-pub extern "C" fn havgrunel_quadratic_min(
+pub fn havgrunel_quadratic_min(
     x_prev: f64,
     x_next: f64,
     f_prev: f64,
@@ -237,8 +228,7 @@ pub extern "C" fn havgrunel_quadratic_min(
 }
 
 // The same, split only where its ratio is above 0 and at most 1, too.
-#[unsafe(no_mangle)]
-pub extern "C" fn havgrunel_quadratic_min_careful(
+pub fn havgrunel_quadratic_min_careful(
     x_prev: f64,
     x_next: f64,
     f_prev: f64,
@@ -255,8 +245,7 @@ pub extern "C" fn havgrunel_quadratic_min_careful(
 }
 
 // The same by the safe rule.
-#[unsafe(no_mangle)]
-pub extern "C" fn havgrunel_quadratic_min_safe(
+pub fn havgrunel_quadratic_min_safe(
     x_prev: f64,
     x_next: f64,
     f_prev: f64,

@@ -32,13 +32,7 @@ fn short_refusal(points: usize, slots: &[f64]) -> u8
 }
 
 // The slots of section `number` of a curve of `points` points, into the first entries of `into`.
-#[unsafe(no_mangle)]
-pub extern "C" fn havgrunel_record(
-    points: usize,
-    slots: &[f64],
-    number: usize,
-    into: &mut [f64],
-) -> u8
+pub fn havgrunel_record(points: usize, slots: &[f64], number: usize, into: &mut [f64]) -> u8
     ensures { pair result into.new ≡ copied_by points slots.now number into.old (copy_verdict points slots.now number into.old) }
 {
     if into.len() < SLOTS {
@@ -55,8 +49,7 @@ pub extern "C" fn havgrunel_record(
 
 // What the section of a record answers by itself: its value and its primitive at x, and the node that it ends on, into the first three entries
 // of `answer`. All three are what the formulas gave, so the first two entries of `finite` say whether the value is finite, and whether the primitive is.
-#[unsafe(no_mangle)]
-pub extern "C" fn havgrunel_section(
+pub fn havgrunel_section(
     tag: u16,
     slots: &[f64],
     x: f64,

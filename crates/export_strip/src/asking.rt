@@ -26,8 +26,7 @@ pub(crate) fn write_answer(asked: QueryAnswer, answer: &mut [f64]) -> u8
 }
 
 // The average price from `a` to `b`, into the first entry of `answer`.
-#[unsafe(no_mangle)]
-pub extern "C" fn havgrunel_strip(
+pub fn havgrunel_strip(
     knots: &[f64],
     tags: &[u16],
     slots: &[f64],
@@ -51,8 +50,7 @@ pub extern "C" fn havgrunel_strip(
 
 // The average price from each of `starts` to the number beside it in `ends`, into the first entries of `answers`; where any strip is refused, so are all,
 // and nothing is written. Beside the refusal comes which strip was refused first, or how many there are where none was.
-#[unsafe(no_mangle)]
-pub extern "C" fn havgrunel_strips(
+pub fn havgrunel_strips(
     knots: &[f64],
     tags: &[u16],
     slots: &[f64],
@@ -81,8 +79,7 @@ fn strips_of(edges: usize) -> usize
 }
 
 // The average price from each of `edges` to the next, in the same way: one number less than there are edges.
-#[unsafe(no_mangle)]
-pub extern "C" fn havgrunel_strip_run(
+pub fn havgrunel_strip_run(
     knots: &[f64],
     tags: &[u16],
     slots: &[f64],

@@ -8,8 +8,7 @@ use column::between::strip_between;
 use column::entry::entry;
 
 // The average price from knot `i` to knot `j`, both counted from 0, into the first entry of `answer`: by two entries of the curve's column.
-#[unsafe(no_mangle)]
-pub extern "C" fn havgrunel_strip_between(
+pub fn havgrunel_strip_between(
     knots: &[f64],
     column: &[f64],
     i: usize,
@@ -26,8 +25,7 @@ pub extern "C" fn havgrunel_strip_between(
 }
 
 // The total up to knot `i`, counted from 0, into the first entry of `answer`: entry `i` of the curve's column, where it is finite.
-#[unsafe(no_mangle)]
-pub extern "C" fn havgrunel_column_entry(column: &[f64], i: usize, answer: &mut [f64]) -> u8
+pub fn havgrunel_column_entry(column: &[f64], i: usize, answer: &mut [f64]) -> u8
     ensures { pair result answer.new ≡ entry_into column.now i answer.old }
 {
     if answer.len() == 0 {

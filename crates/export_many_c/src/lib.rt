@@ -1,0 +1,4 @@
+// The calls of `export_many` under names that C can call. How such a crate is made is said in `export_build_c`.
+#![tactic(auto)]
+
+pub mod many;
