@@ -1,7 +1,7 @@
 """What a first run shows and how it ends: tools/archive over a stand-in for rt that proves nothing and takes no time."""
 
 import os
-import platform
+import re
 import shutil
 import subprocess
 import tempfile
@@ -10,20 +10,21 @@ import unittest
 from havgrunel import _library
 
 ARCHIVE = os.path.join(_library.REPOSITORY, "tools", "archive")
-# Two lines of a proof, as rt writes them, and then the objects of the archive that is there already.
+# What rt says of two crates that it proves, in its own words, and then the objects of the archive that is there already.
 RT = """\
 #!/bin/sh
 case $1 in
 doc | version) exec {rt} "$@" ;;
-check)
-    mkdir -p target/stamp target/rlib
-    echo "rt: numbers proved (3 s)"
-    [ ! -e slips ] || {{ echo "rt: refusal NOT PROVED (exit 1, 4 s)"; exit 1; }}
-    echo "rt: refusal proved (unchanged since it was last proved)"
-    ;;
-staticlib)
-    mkdir -p target/staticlib
-    cp {archive} "target/staticlib/lib$2.a"
+lib)
+    echo "rt: chose --jobs 2 for numbers"
+    echo "crate numbers: modules loaded=0 checked=83"
+    echo "logic=proved functions=2"
+    echo "rt: chose --jobs 2 for refusal"
+    [ ! -e ../../slips ] || {{ echo "crate refusal: modules loaded=0 checked=12"; echo "logic=not-proved"; exit 1; }}
+    echo "crate refusal: modules loaded=0 checked=12"
+    echo "logic=proved functions=1"
+    mkdir -p out
+    cp {archive} "out/lib${{PWD##*/}}.a"
     ;;
 esac
 """
@@ -38,8 +39,6 @@ class Words(unittest.TestCase):
 @unittest.skipIf(shutil.which("rt") is None, "there is no Rattle kit here")
 class FirstRun(unittest.TestCase):
     def setUp(self):
-        if platform.machine() != "x86_64":
-            self.skipTest("the stand-in for rt is for x86-64")
         made = subprocess.run([ARCHIVE], stdout=subprocess.PIPE, check=True, text=True).stdout.rstrip("\n")
         folder = tempfile.TemporaryDirectory()
         self.addCleanup(folder.cleanup)
@@ -48,7 +47,10 @@ class FirstRun(unittest.TestCase):
         os.makedirs(os.path.join(self.home, "bin"))
         shutil.copy(ARCHIVE, os.path.join(self.home, "tools"))
         shutil.copy(os.path.join(_library.REPOSITORY, "crates.txt"), self.home)
-        os.symlink(os.path.join(_library.REPOSITORY, "crates"), os.path.join(self.home, "crates"))
+        # Folders of its own, since what is made of a crate lies in the crate's folder.
+        with open(os.path.join(self.home, "crates.txt"), encoding="utf-8") as listed:
+            for name in re.findall(r"^(\w+) staticlib:", listed.read(), re.MULTILINE):
+                os.makedirs(os.path.join(self.home, "crates", name))
         with open(os.path.join(self.home, "bin", "rt"), "w", encoding="utf-8") as file:
             file.write(RT.format(rt=shutil.which("rt"), archive=made))
         os.chmod(os.path.join(self.home, "bin", "rt"), 0o755)
@@ -70,7 +72,8 @@ class FirstRun(unittest.TestCase):
         self.assertRegex(lines[1], r"^archive: 1 of \d+ crates: numbers is proved, \d+ s so far$")
         self.assertRegex(lines[2], r"^archive: 2 of \d+ crates: refusal is proved, \d+ s so far$")
         self.assertRegex(lines[-1], r"^archive: the library is proved and compiled, \d+ s in all$")
-        self.assertEqual(len([line for line in lines if " export_" in line]), 5)
+        # Each static library, and the library that it hands on.
+        self.assertEqual(len([line for line in lines if " export_" in line]), 10)
         # What is there is found without a word, and nothing of the work is left.
         self.assertEqual(self.run_archive("--progress"), (0, self.native("libhavgrunel.a") + "\n", ""))
         self.assertEqual(set(os.listdir(self.native(""))) - {"lock"}, {"libhavgrunel.a", "libhavgrunel.so", "log", "sum"})
@@ -82,7 +85,7 @@ class FirstRun(unittest.TestCase):
         open(os.path.join(self.home, "slips"), "w", encoding="utf-8").close()
         status, out, told = self.run_archive("--shared")
         self.assertEqual((status, out), (1, ""))
-        self.assertIn("rt: refusal NOT PROVED (exit 1, 4 s)\n", told)
+        self.assertIn("crate refusal: modules loaded=0 checked=12\nlogic=not-proved\n", told)
         self.assertTrue(told.endswith("archive: a crate is not proved, so there is nothing to link\n"))
         os.remove(os.path.join(self.home, "slips"))
         self.assertEqual(self.run_archive()[0], 0)
