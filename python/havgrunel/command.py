@@ -139,7 +139,7 @@ def parser_of(prog: str) -> argparse.ArgumentParser:
     instead.add_argument("--plot", metavar="SVG", help="draw the curve into this file instead ('-' is standard output)")
     instead.add_argument("--csv", metavar="FILE", help="write the table with every digit into this file instead ('-' is standard output)")
     instead.add_argument("--tsv", metavar="FILE", help="the same with tabs")
-    instead.add_argument("--bytes", metavar="FILE", help="write the order's bytes, as target/bin/curveorder takes them, into this file instead; a careful or safe split has none")
+    instead.add_argument("--bytes", metavar="FILE", help="write the order's bytes, as crates/curveorder/out/curveorder takes them, into this file instead; a careful or safe split has none")
     instead.add_argument("--exact", action="store_true", help="print each number so that it reads back as the same float")
     set_help = "a setting besides those of the text, as 'settings: gas'; may be given several times"
     parser.add_argument("--set", metavar="SETTING", action="append", default=[], help=set_help)

@@ -7,8 +7,17 @@ use std::process::Command;
 
 fn main() {
     let repository = folder("CARGO_MANIFEST_DIR").join("../..");
-    for part in ["crates", "crates.txt", "tools/archive"] {
-        println!("cargo:rerun-if-changed={}", repository.join(part).display());
+    let mut parts = vec![
+        repository.join("crates.txt"),
+        repository.join("tools/archive"),
+    ];
+    // A crate's out/ changes with every proof, and is not what the archive is made of.
+    for found in fs::read_dir(repository.join("crates")).expect("crates/ is there") {
+        let folder = found.expect("crates/ can be read").path();
+        parts.extend(["src", "specs", "proofs"].map(|part| folder.join(part)));
+    }
+    for part in parts.iter().filter(|part| part.exists()) {
+        println!("cargo:rerun-if-changed={}", part.display());
     }
     let made = Command::new(repository.join("tools/archive"))
         .output()
@@ -18,7 +27,7 @@ fn main() {
         panic!("the archive of proved functions is missing:\n{said}");
     }
     let archive = String::from_utf8(made.stdout).expect("tools/archive prints a path");
-    // The gate clears the folder that the archive is made in, so a copy is linked.
+    // A later run makes the archive anew in its folder, so a copy is linked.
     let out = folder("OUT_DIR");
     fs::copy(archive.trim_end(), out.join("libhavgrunel.a")).expect("the archive can be copied");
     println!("cargo:rustc-link-search=native={}", out.display());
