@@ -3,7 +3,7 @@ ghost use Rattle.std.specs.Prelude.{◌≡◌};
 ghost use Rattle.months.specs.Calendar.{month_starts};
 
 // January 2000 to January 2100, with 1 January 2000 as day 0.
-const STARTS: [u16; 1201] = [
+static STARTS: [u16; 1201] = [
     0, 31, 60, 91, 121, 152, 182, 213, 244, 274, 305, 335, 366, 397, 425, 456, 486, 517, 547, 578,
     609, 639, 670, 700, 731, 762, 790, 821, 851, 882, 912, 943, 974, 1004, 1035, 1065, 1096, 1127,
     1155, 1186, 1216, 1247, 1277, 1308, 1339, 1369, 1400, 1430, 1461, 1492, 1521, 1552, 1582, 1613,
@@ -94,9 +94,9 @@ const STARTS: [u16; 1201] = [
     36464, 36494, 36525,
 ];
 
-// The table as a whole, since the compiler writes a constant array anew wherever it is named: a caller asks for it once, and then reads what it needs.
-pub(crate) fn month_starts() -> [u16; 1201]
-    ensures { result ≡ month_starts }
+// The table where it lies: the compiler would write a constant array anew wherever it is named.
+pub(crate) fn month_starts() -> &'static [u16; 1201]
+    ensures { result.now ≡ month_starts }
 {
-    STARTS
+    &STARTS
 }
