@@ -84,6 +84,7 @@ fn splits(f_prev: f64, f_next: f64, f_average: f64) -> bool
 
 // The safe rule's tests: ends at or above 0 can always touch it, but d_av rounds below 0 where an end is 0. A discriminant that is too large for a float is
 // a NaN, and passes.
+#[tactic(auto, unfolding(crate::specs::QuadraticMin::splits_safely))]
 fn splits_safely(f_prev: f64, f_next: f64, f_average: f64) -> bool
     ensures { result ≡ splits_safely f_prev f_next f_average }
 {
@@ -104,6 +105,7 @@ fn passes(safe: bool, f_prev: f64, f_next: f64, f_average: f64) -> bool
 
 // Whether a parabola that passes the tests is split at this ratio: at any; where it is then no longer than its period; or where it is moreover not squeezed
 // to next to nothing. A NaN is above nothing.
+#[tactic(auto, unfolding(crate::specs::QuadraticMin::ratio_passes, crate::specs::QuadraticMin::in_period, crate::specs::QuadraticMin::in_sight))]
 fn ratio_passes(safe: bool, any: bool, x_ratio: f64) -> bool
     ensures { result ≡ ratio_passes safe any x_ratio }
 {
