@@ -1,5 +1,4 @@
 -- `curves::same_numbers` is safe and ends: the place rises to the count, and there are as many numbers and words.
-use borrow.Author.Rules.{rules}
 use Prim.Native.Nat.{◌≤◌, ◌-◌}
 use lib.ListN.{length}
 use Rattle.replay.proofs.curves.same_numbers.Given as goal

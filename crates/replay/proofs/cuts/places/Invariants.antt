@@ -1,5 +1,4 @@
 -- `cuts::places` is safe and ends: the place rises to the count of the places.
-use borrow.Author.Rules.{rules}
 use Prim.Native.Nat.{◌≤◌, ◌-◌}
 use Rattle.replay.proofs.cuts.places.Given as goal
 

@@ -1,5 +1,4 @@
 -- `cuts::same_floats` is safe and ends: the place rises to the count of one list, and the other has as many.
-use borrow.Author.Rules.{rules}
 use mathlib.Core.Path.{◌≡◌}
 use Prim.Native.Nat.{◌-◌}
 use lib.ListN.{length}

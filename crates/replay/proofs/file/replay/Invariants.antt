@@ -1,8 +1,6 @@
 -- `file::replay` is safe and ends: each line starts after the one before.
-use borrow.Author.Rules.{rules}
 use Prim.Native.Nat.{◌≤◌, ◌-◌}
 use lib.ListN.{length}
-use native.Mathlib.Omega.{arith}
 use Rattle.replay.proofs.file.replay.Given as goal
 
 abbrev pub invariant-loop-at : goal.invariant-loop-at

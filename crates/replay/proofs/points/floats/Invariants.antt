@@ -1,5 +1,4 @@
 -- `points::floats` is safe and ends: the place rises to the count, which the words and the floats have room for.
-use borrow.Author.Rules.{rules}
 use Prim.Native.Nat.{◌≤◌, ◌-◌}
 use Rattle.replay.proofs.points.floats.Given as goal
 

@@ -1,5 +1,4 @@
 -- `records::same_fields` is safe and ends: the place rises to the count of fields, and behind the tag there is a word for each.
-use borrow.Author.Rules.{rules}
 use Prim.Native.Nat.{◌≤◌, ◌-◌}
 use lib.ListN.{length}
 use Rattle.numbers.specs.Sizes.{field_count}

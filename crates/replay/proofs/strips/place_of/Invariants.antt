@@ -1,5 +1,4 @@
 -- `strips::place_of` is safe and ends: the place rises to the count of the knots.
-use borrow.Author.Rules.{rules}
 use Prim.Native.Nat.{◌≤◌, ◌-◌}
 use lib.ListN.{length}
 use Rattle.replay.proofs.strips.place_of.Given as goal

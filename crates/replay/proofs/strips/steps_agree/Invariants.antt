@@ -1,5 +1,4 @@
 -- `strips::steps_agree` is safe and ends: the place rises to that of the last knot, and there is a price for each below it.
-use borrow.Author.Rules.{rules}
 use mathlib.Core.Path.{◌≡◌}
 use Prim.Native.Nat.{◌+◌, ◌≤◌, ◌-◌}
 use lib.ListN.{length}

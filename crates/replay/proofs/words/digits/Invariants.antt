@@ -1,5 +1,4 @@
 -- `words::digits` is safe and ends: the place rises in each turn, and the shift drops what has no room.
-use borrow.Author.Rules.{rules}
 use Prim.Native.Nat.{◌≤◌, ◌-◌}
 use lib.ListN.{length}
 use Rattle.replay.proofs.words.digits.Given as goal

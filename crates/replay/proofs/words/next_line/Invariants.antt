@@ -1,5 +1,4 @@
 -- It never goes back.
-use borrow.Author.Rules.{rules}
 use Prim.Native.Nat.{◌≤◌, ◌-◌}
 use lib.ListN.{length}
 use Rattle.replay.proofs.words.next_line.Given as goal

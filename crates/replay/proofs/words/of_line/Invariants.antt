@@ -1,5 +1,4 @@
 -- `words::of_line` is safe and ends: the place rises by each word, and there is room for as many as it takes.
-use borrow.Author.Rules.{rules}
 use Prim.Native.Nat.{◌≤◌, ◌-◌}
 use lib.ListN.{length}
 use Rattle.replay.proofs.words.of_line.Given as goal
