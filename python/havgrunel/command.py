@@ -32,7 +32,7 @@ Periods are named 2026-10, Oct-26, Oct 2026, 2026-Q4, Q4-26, winter 2026, Win-26
 (October to March), summer 2027, Sum-27 (April to September), 2027 or Cal-27.
 They must adjoin, and END is where the next one starts: the day after the last
 day. So it is with a strip. The library has the days on which named periods
-start, from January 2000 to December 2099; other names are refused by 19.
+start, from January 2000 to December 2099; other names go by Python's calendar.
 
 Months, quarters or years may stand in a row, with an average to each in the
 same line, in lines that follow, or both. The first month of the one name and

@@ -1,6 +1,7 @@
 """The words of a table: numbers, days, timestamps and the names of periods.
 
-Where a named period starts and ends is read from the library's table of months. Python's calendar only names those days.
+Where a named period starts and ends is read from the library's table of months, and beyond its years from Python's calendar, which otherwise only names those
+days.
 """
 
 import datetime
@@ -11,9 +12,8 @@ from dataclasses import dataclass
 from typing import List, Optional, Tuple
 
 from ._library import load
-from .faults import Bad, BadByRefusal, quoted
+from .faults import Bad, quoted
 from .months import A_DAY, ISO_MONTH, MONTHS, START, month_knots, month_number
-from .refusals import Refused
 
 Moment = datetime.datetime
 Span = Tuple[Moment, Moment]
@@ -158,16 +158,26 @@ def all_first_days() -> List[Moment]:
     return first_days(0, MONTHS - 1)
 
 
-def span(text: str, months: Months) -> Span:
-    """Where a period of so many months starts and ends. One that the library refuses is told by `text`."""
+def first_day(month: int) -> Moment:
+    """The first day of a month by Python's calendar, for periods beyond the library's years."""
+    return datetime.datetime(START.year + month // 12, month % 12 + 1, 1)
+
+
+def in_calendar(text: str, months: Months) -> Months:
+    """The months of a period that ends within the years that Python's calendar has."""
+    try:
+        first_day(months[0]), first_day(sum(months))
+    except ValueError:
+        raise Bad(f"{quoted(text)} is beyond the calendar") from None
+    return months
+
+
+def span(months: Months) -> Span:
+    """Where a period of so many months starts and ends: by the library's table, and beyond its years by Python's calendar."""
     (first, count), days = months, all_first_days()
     if 0 <= first < first + count < len(days):
         return days[first], days[first + count]
-    try:
-        start, *_, end = first_days(first, first + count - 1)
-    except Refused as refused:
-        raise BadByRefusal(text, refused) from None
-    return start, end
+    return first_day(first), first_day(first + count)
 
 
 def item(text: str) -> Item:
@@ -179,7 +189,7 @@ def item(text: str) -> Item:
     if STAMP.fullmatch(text):
         return Item("moment", text, moment=stamp(text), clocked=True)
     months = months_of(text)
-    return Item("other", text) if months is None else Item("period", text, months=months)
+    return Item("other", text) if months is None else Item("period", text, months=in_calendar(text, months))
 
 
 def items(text: str) -> List[Item]:

@@ -222,7 +222,7 @@ class Quotes:
                 raise Bad(f"the period {quoted(first.text)} has no price")
             if len(found) > 2:
                 raise Bad("a period by its name has one price, and nothing else stands in its line")
-            return (*span(first.text, named), False)
+            return (*span(named), False)
         if first.kind == "other":
             raise unknown(first)
         if len(found) != 3:

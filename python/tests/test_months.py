@@ -319,12 +319,19 @@ class Named(InAFolder):
         other.assert_called_once_with(0, 1199, "month")
 
     def test_outside_the_years(self):
-        for name in "1999-12", "Dec-1999", "2100-01", "9999-12", "0000-01", "1999-Q4", "Q1 2100", "winter 2099", "Win-99", "winter 1999", "summer 2100", "1999", "2100", "Cal-2100":
+        """Names beyond the library's table are read by Python's calendar, and those beyond that are told so."""
+        for name, days in (
+            ("1999-12", 31), ("Dec-1999", 31), ("2100-01", 31), ("1999-Q4", 92), ("Q1 2100", 90), ("winter 2099", 182), ("Win-99", 182), ("winter 1999", 183),
+            ("summer 2100", 183), ("1999", 365), ("2100", 365), ("Cal-2100", 365), ("0001-01", 31), ("9999-11", 30),
+        ):
             with self.subTest(name=name):
-                told = f"{refused_at(name)}\n"
-                self.assertEqual(run("-", text=f"{name} 3\ndaily\n"), (1, "", f"standard input:1: {told}"))
-                self.assertEqual(run("-", text=f"# a\nDec-99 2\n{name} 3\ndaily\n"), (1, "", f"standard input:3: {told}"))
-                self.assertEqual(run(self.written("x.csv", f"month;price\n{name};3\n")), (1, "", f"{self.path('x.csv')}:2: {told}"))
+                self.assertEqual(read(f"{name} 3\ndaily\n").knots, [0.0, float(days)])
+        for name in "9999-12", "0000-01":
+            with self.subTest(name=name):
+                told = f"'{name}' is beyond the calendar\n"
+                self.assertEqual(run("-", text=f"{name} 3\ndaily\n"), (2, "", f"standard input:1: {told}"))
+                self.assertEqual(run("-", text=f"# a\nDec-99 2\n{name} 3\ndaily\n"), (2, "", f"standard input:3: {told}"))
+                self.assertEqual(run(self.written("x.csv", f"month;price\n{name};3\n")), (2, "", f"{self.path('x.csv')}:2: {told}"))
 
     def test_where_no_period_stands_it_is_not_asked_for(self):
         for text, what in (

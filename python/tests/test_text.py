@@ -57,6 +57,7 @@ BAD = [
     ("winter 29.40\n", 1, f"'winter' has no year; taken are {FORMS}"),
     ("weekly\n", 1, f"'weekly' is neither a word that asks (daily, hourly, every STEP, at POINT .., strip: START to END) nor a knot or period; those are {FORMS}"),
     ("2026-13 3\n", 1, "there is no month '2026-13'"),
+    ("9999-12 3\n", 1, "'9999-12' is beyond the calendar"),
     ("2026-10\n", 1, "the period '2026-10' has no price"),
     ("2026-10 3 4\n", 1, "a period by its name has one price, and nothing else stands in its line"),
     ("2026-10 3\n2026-11-01 4\n", 2, f"'2026-11-01' is no period: {NAMES}"),
