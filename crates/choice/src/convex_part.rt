@@ -25,6 +25,7 @@ fn b3_of(method: ConvexMonotone) -> f64
 }
 
 // The fourth kind serves all regions but the first, each with its own eta.
+#[tactic(auto, unfolding(crate::specs::ConvexPart::fourth, crate::specs::ConvexPart::fourth_min))]
 fn fourth(
     method: ConvexMonotone,
     period: Period,
@@ -105,6 +106,7 @@ fn at_most(bound: f64, eta: f64) -> f64
     eta
 }
 
+#[tactic(auto, unfolding(crate::specs::ConvexPart::at_least))]
 fn at_least(bound: f64, eta: f64) -> f64
     ensures { result ≡ at_least bound eta }
 {
