@@ -1,4 +1,5 @@
 -- In the safe mode every node and every price of a table is finite, for prices and lengths of any size that a market has.
+use Rattle.std.specs.Prelude.{None, Some}
 use Prim.Native.Nat.{ℕ, ◌+◌, ◌-◌, ◌*◌, ◌≤◌, ◌<◌, zero-le}
 use native.Mathlib.Omega.{arith}
 use native.Mathlib.Nat.{mul-one, one-mul, zero-mul, add-zero, zero-add, eq-or-lt_of_le, eq-zero-or-pos}
@@ -25,15 +26,12 @@ use Rattle.numbers.proofs.Ratios.{zero_within, half_within, between_within, unit
 use Rattle.section.specs.Section as section-spec
 use Rattle.section.specs.declared.section.Section.{Section}
 use Rattle.record.specs.Reading.{record_at}
-use Rattle.record.specs.declared.reading.Found.TheVariants as found
 use Rattle.table.specs.Check.{all_finite, rising, from_zero}
 use Rattle.table.specs.Method.{is_safe}
 use Rattle.table.specs.Safe.{GivenNotBelow}
 use Rattle.table.specs.Table as nodes
 use Rattle.table.specs.Table.{at, outer, node_at, first_node, last_node, middle_at, second_last}
-use Rattle.table.specs.declared.ends.End.TheVariants as end
 use Rattle.table.specs.declared.ends.Frame.{Frame}
-use Rattle.table.specs.declared.ends.Seam.TheVariants as seam
 use Rattle.table.proofs.Nodes.{node_not_below}
 pub use Rattle.choice.proofs.Finite.{Safe}
 use Rattle.choice.proofs.Finite.{Ordinary, shortest, longest, highest_node, highest_average, average_within, length_within, length_from, every_price_finite}
@@ -50,9 +48,9 @@ pub record OrdinaryTable (x y : List Float) : Type 0 where
 -- the safe mode, with no seam and both ends free
 pub record FreeFrame (frame : Frame) : Type 0 where
   pub safe : Safe frame.method
-  pub seam : frame.seam ≡ seam.Absent
-  pub left : frame.left ≡ end.Free
-  pub right : frame.right ≡ end.Free
+  pub seam : frame.seam ≡ None
+  pub left : frame.left ≡ None
+  pub right : frame.right ≡ None
 
 three_halves_within : Within 1 three_halves
 unfolding of_bits
@@ -107,7 +105,7 @@ inside i n l p q = (
 -- the record at place i holds a section whose every price between its knots is finite
 pub record FiniteAt (x : List Float) (tags : List ℕ) (slots : List Float) (i : ℕ) : Type 0 where
   pub section : Section
-  pub held : record_at tags slots i ≡ found.Section section
+  pub held : record_at tags slots i ≡ Some section
   pub priced : (q : Float) → le (at x i) q ≡ true → le q (at x (i + 1)) ≡ true → finite (section-spec.value section q) ≡ true
 
 module _ (x y : List Float) (frame : Frame) (same : length x ≡ length y) (knots : all_finite x ≡ true) (rise : rising x ≡ true) (signs : from_zero y ≡ true)

@@ -1,4 +1,6 @@
 -- The three sorts of node, by place, and how a pass that writes them in order comes to all of them.
+use Rattle.std.specs.Option.{unwrap_or}
+use Rattle.std.specs.Prelude.{None, Some}
 use Prim.Native.Nat.{ℕ, ◌+◌, ◌-◌, ◌≤◌, ◌<◌}
 use native.Mathlib.Omega.{arith}
 use native.Mathlib.Nat.{zero-add, le_refl}
@@ -13,9 +15,8 @@ use lib.Seq.{get_or-set_other}
 use Rattle.numbers.specs.Overlay.{overlay}
 use Rattle.numbers.specs.Words.{zero}
 use Rattle.numbers.proofs.Overlay.{overlay_none, overlay_more, overlay_join, overlay_inside, overlay_comm}
-use Rattle.table.specs.declared.ends.End.{End}
 use Rattle.table.specs.declared.ends.Frame.{Frame}
-use Rattle.table.specs.Table.{at, outer, or_given, middle_at, second, second_last, first_node, last_node, node_at}
+use Rattle.table.specs.Table.{End, or_given, at, outer, or_given, middle_at, second, second_last, first_node, last_node, node_at, End}
 use Rattle.assembly.specs.Steps.{beside, first_from, last_from}
 
 beside_same : (n : ℕ) (other : End) (f g : Float) → ((n ≡ 2 → ⊥) → f ≡ g) → beside n other f ≡ beside n other g
@@ -29,6 +30,11 @@ beside_same n other f g h = by (eqb n 2) (eqb-false n 2)
 set_first : (old : List Float) (n : ℕ) (a : Float) (g : ℕ → Float) → set (overlay 1 n g old) 0 a ≡ overlay 1 n g (set old 0 a)
 unfolding overlay
 set_first old n a g = sym (overlay_comm 0 1 (λ k. a) 1 n g old (omega arith))
+
+-- a given end, as the library takes it
+pub unwraps : (end : End) {a d e : Float} → a ≡ unwrap_or end d → d ≡ e → a ≡ or_given end e
+unwraps None p q = p ∙ q
+unwraps (Some g) p q = p
 
 module _ (x y : List Float) (frame : Frame) where
   pub node_first : node_at x y frame 0 ≡ first_node x y frame

@@ -1,4 +1,5 @@
 -- What is written, is read: the records of a table give back its sections.
+use Rattle.std.specs.Prelude.{Some}
 use Prim.Native.Nat.{ℕ, ◌+◌, ◌-◌, ◌*◌, ◌≤◌, ◌<◌}
 use native.Mathlib.Omega.{arith}
 use native.Mathlib.Nat.{zero-add}
@@ -11,7 +12,6 @@ use Rattle.numbers.specs.Sizes.{slot_count}
 use Rattle.numbers.proofs.Overlay.{overlay_inside, length_overlay}
 use Rattle.record.specs.Tag.{tag_of}
 use Rattle.record.specs.Reading.{read_section, record_at}
-use Rattle.record.specs.declared.reading.Found.TheVariants as found
 use Rattle.record.proofs.RoundTrip.{record_length, record_back}
 use Rattle.table.specs.declared.ends.Frame.{Frame}
 use Rattle.assembly.specs.Making.{tags_after, slots_after}
@@ -54,7 +54,7 @@ module _ (x y : List Float) (frame : Frame) where
 
   -- each record of a built curve is read back as the section it was written from
   pub record_read_back : (i : ℕ) (tags : List ℕ) (slots : List Float) → i < length x - 1 → length x - 1 ≤ length tags → slot_count * (length x - 1) ≤ length slots →
-      record_at (tags_after 0 x y frame tags) (slots_after 0 x y frame slots) i ≡ found.Section (section_at x y frame i)
+      record_at (tags_after 0 x y frame tags) (slots_after 0 x y frame slots) i ≡ Some (section_at x y frame i)
   record_read_back i tags slots l h g =
       ap (λ (t : ℕ). read_section t (take slot_count (drop (slot_count * i) (slots_after 0 x y frame slots)))) (tag_read_back i tags l h)
       ∙ ap (λ (s : List Float). read_section (tag_of (section_at x y frame i)) s) (slots_read_back i slots l g)

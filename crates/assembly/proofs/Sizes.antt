@@ -1,4 +1,5 @@
 -- What accepted sizes mean, and what an answer says of the verdict on them.
+use Rattle.std.specs.Prelude.{Err, Ok}
 use Prim.Native.Nat.{ℕ, ◌≤◌}
 use mathlib.Core.Bool.{false, not}
 use mathlib.Core.List.{List}
@@ -6,10 +7,8 @@ use mathlib.Core.Path.{◌≡◌, refl, sym, ap, ◌∙◌}
 use borrow.Author.Tests.{ltb-false, eqb-true, not-false}
 use lib.Dec.{ltb, eqb}
 use lib.Ieee.{Float}
-use Rattle.refusal.specs.Refusal.{first}
+use Rattle.refusal.specs.Refusal.{first, Verdict}
 use Rattle.refusal.specs.declared.Refusal.{Refusal}
-use Rattle.refusal.specs.declared.Verdict.{Verdict}
-use Rattle.refusal.specs.declared.Verdict.TheVariants as verdict
 use Rattle.refusal.proofs.First.{next}
 use Rattle.table.specs.Buffers.{Buffers, Outcome}
 use Rattle.table.specs.Check.{room_tests}
@@ -17,10 +16,8 @@ use Rattle.table.specs.Sound.{Room}
 use Rattle.table.specs.declared.ends.Frame.{Frame}
 use Rattle.table.proofs.Outcomes as outcomes
 use Rattle.table.proofs.Sound.{room}
-use Rattle.assembly.specs.Making.{size_tests, after, made_from}
+use Rattle.assembly.specs.Making.{size_tests, after, made_from, Made}
 use Rattle.assembly.specs.Sections.{tail_of}
-use Rattle.assembly.specs.declared.making.Made.{Made}
-use Rattle.assembly.specs.declared.making.Made.TheVariants as made
 use Rattle.assembly.specs.declared.sections.Tail.{Tail}
 
 -- a table of n knots and m averages, and lent buffers that it fits into
@@ -30,7 +27,7 @@ pub record Fits (n m nodes tags slots : ℕ) : Type 0 where
   pub room : Room n nodes tags slots
 
 module _ (n m nodes tags slots : ℕ) where
-  pub fits : first (size_tests n m nodes tags slots) ≡ verdict.Accepted → Fits n m nodes tags slots
+  pub fits : first (size_tests n m nodes tags slots) ≡ Ok tt → Fits n m nodes tags slots
   fits h =
       let (same, others) = next _ _ _ h in
       let (low, sizes) = next _ _ _ others in
@@ -42,21 +39,21 @@ module _ (n m nodes tags slots : ℕ) where
 
 -- the verdict that an answer has, and the tail in it
 abbrev is_made : Made → Verdict
-is_made (made.Tail t) = verdict.Accepted
-is_made (made.Refused r) = verdict.Refused r
+is_made (Ok t) = (Ok tt)
+is_made (Err r) = Err r
 
 abbrev tail_in : Tail → Made → Tail
-tail_in d (made.Tail t) = t
-tail_in d (made.Refused r) = d
+tail_in d (Ok t) = t
+tail_in d (Err r) = d
 
 module _ (p : ℕ) (x y : List Float) (frame : Frame) (v : Verdict) (b : Buffers) (o : Outcome Made) (e : o ≡ made_from p x y frame v b) where
-  pub was_refused : (r : Refusal) → o.answer ≡ made.Refused r → (v ≡ verdict.Refused r) × (o.buffers ≡ b)
+  pub was_refused : (r : Refusal) → o.answer ≡ Err r → (v ≡ Err r) × (o.buffers ≡ b)
   was_refused r f =
-      let w = outcomes.was_refused is_made v made.Refused (λ r. refl) b _ refl o r e f in
-      (w, ap (λ (q : Outcome Made). q.buffers) (outcomes.left_old v made.Refused b _ o r e w))
+      let w = outcomes.was_refused is_made v Err (λ r. refl) b _ refl o r e f in
+      (w, ap (λ (q : Outcome Made). q.buffers) (outcomes.left_old v Err b _ o r e w))
 
-  pub was_made : (t : Tail) → o.answer ≡ made.Tail t → (v ≡ verdict.Accepted) × (t ≡ tail_of x y frame) × (o.buffers ≡ after p x y frame b)
+  pub was_made : (t : Tail) → o.answer ≡ Ok t → (v ≡ Ok tt) × (t ≡ tail_of x y frame) × (o.buffers ≡ after p x y frame b)
   was_made t f =
-      let w = outcomes.was_accepted is_made v made.Refused (λ r. refl) b _ refl o e (ap is_made f) in
-      let n = outcomes.left_new v made.Refused b _ o e w in
+      let w = outcomes.was_accepted is_made v Err (λ r. refl) b _ refl o e (ap is_made f) in
+      let n = outcomes.left_new v Err b _ o e w in
       (w, ap (tail_in t) (sym f ∙ ap (λ (q : Outcome Made). q.answer) n), ap (λ (q : Outcome Made). q.buffers) n)

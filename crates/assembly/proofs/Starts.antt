@@ -1,5 +1,6 @@
 -- 02, K1: at its own left knot each section of a table of ordinary size that is not split, or split in the usual way, gives back the total before it.
 -- In every mode, with a seam or none, held or not. Where a total is finite, so are those before it.
+use Rattle.std.specs.Prelude.{None, Option, Some}
 use Prim.Native.Nat as nat
 use Prim.Native.Nat.{ℕ, suc, ◌+◌, ◌-◌, ◌≤◌, ◌<◌}
 use native.Mathlib.Omega.{arith}
@@ -29,10 +30,8 @@ use Rattle.section.specs.Section as section
 use Rattle.table.specs.Check.{rising}
 use Rattle.table.specs.Table as nodes
 use Rattle.table.specs.Table.{at, seamed, node_at, first_node, last_node, middle_at, second_last, total_at}
-use Rattle.table.specs.declared.ends.End.TheVariants as end
 use Rattle.table.specs.declared.ends.Frame.{Frame}
 use Rattle.table.specs.declared.ends.Seam.{Seam}
-use Rattle.table.specs.declared.ends.Seam.TheVariants as seam
 use Rattle.choice.proofs.Finite.{average_within, shortest_low}
 use Rattle.choice.proofs.Starts.{Modest, Gives, constant_gives, section_gives}
 use Rattle.assembly.specs.Sections.{period_at, section_at}
@@ -46,9 +45,9 @@ farthest_within = record { sign = false; part = 1; power = pos 398; is = refl; s
 price_within : (y : Float) → price_modest y ≡ true → Within 150 y
 price_within y h = let p = and_split (le (neg highest) y) (le y highest) h in sided_within y average_within p.0 p.1
 
-seamed_within : (s : Seam) (i : ℕ) (f : Float) → seam_modest s ≡ true → Within 151 f → Within 151 (seamed s i f)
-seamed_within seam.Absent i f h w = w
-seamed_within (seam.At count g) i f h w = of_both (Within 151) (eqb i count) g f (wider (price_within g h) tt) w
+seamed_within : (s : Option Seam) (i : ℕ) (f : Float) → seam_modest s ≡ true → Within 151 f → Within 151 (seamed s i f)
+seamed_within None i f h w = w
+seamed_within (Some s) i f h w = of_both (Within 151) (eqb i s.count) s.node f (wider (price_within s.node h) tt) w
 
 -- ---- the totals: those that start from +0.0, and where one is finite, so are those before it
 pub total_kept : (x y : List Float) (frame : Frame) → frame.start ≡ zero → (i : ℕ) → Total (total_at x y frame i)
@@ -126,7 +125,7 @@ module _ (x y : List Float) (frame : Frame) (rise : rising x ≡ true) (given : 
       seamed_within frame.seam i _ given.seam
       (sum_within (product_within s.0 (rw e at (read_within (i - 1) before)) tt) (product_within s.1 (read_within i l) tt) tt)
 
-  module _ (left : frame.left ≡ end.Free) (right : frame.right ≡ end.Free) (two : 2 ≤ length x) where
+  module _ (left : frame.left ≡ None) (right : frame.right ≡ None) (two : 2 ≤ length x) where
     more : eqb (length x) 2 ≡ false → 3 ≤ length x
     more h = ⊎_elim (λ (e : 2 ≡ length x). absurd (eqb-false (length x) 2 h (sym e))) (λ (l : 2 < length x). l) (eq-or-lt_of_le two)
 
@@ -162,7 +161,7 @@ module _ (x y : List Float) (frame : Frame) (rise : rising x ≡ true) (given : 
     before : Total (total_at x y frame i)
     before = total_kept x y frame start i
 
-    period_modest_lem : frame.left ≡ end.Free → frame.right ≡ end.Free → Modest (period_at x y frame i)
+    period_modest_lem : frame.left ≡ None → frame.right ≡ None → Modest (period_at x y frame i)
     period_modest_lem left right = record {
       left = within_finite (knot_within i (omega arith));
       length = (length_of i l).within;

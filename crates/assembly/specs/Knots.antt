@@ -1,12 +1,11 @@
 -- 02, K9: what is claimed of the three last slots of every record of a table.
-use Rattle.std.specs.Prelude.{ℕ, ◌+◌, ◌*◌, List, ◌≡◌, Float}
+use Rattle.std.specs.Prelude.{ℕ, ◌+◌, ◌*◌, List, ◌≡◌, Float, Some}
 use Rattle.numbers.specs.Sizes.{slot_count}
 use Rattle.numbers.specs.Words.{◌⊕◌, ◌⊖◌, ◌⊗◌, zero}
 use Rattle.section.specs.Section.{value}
 use Rattle.section.specs.declared.section.Section.{Section}
 use Rattle.record.specs.Knots.{left_price, right_price, total_after}
 use Rattle.record.specs.Reading.{record_at}
-use Rattle.record.specs.declared.reading.Found.TheVariants as found
 use Rattle.table.specs.Table.{at, total_at}
 use Rattle.table.specs.declared.ends.Frame.{Frame}
 use Rattle.choice.specs.Totals.{StartsFrom}
@@ -16,7 +15,7 @@ use Rattle.assembly.specs.declared.sections.Tail.{Tail}
 -- that: a held section as any other, and the only one of two points.
 pub record KnotsAt (x y : List Float) (frame : Frame) (tags : List ℕ) (slots : List Float) (i : ℕ) : Type 0 where
   pub section : Section
-  pub held : record_at tags slots i ≡ found.Section section
+  pub held : record_at tags slots i ≡ Some section
   pub starts : StartsFrom (total_at x y frame i) section
   pub left : at slots (slot_count * i + left_price) ≡ value section (at x i)
   pub right : at slots (slot_count * i + right_price) ≡ value section (at x (i + 1))

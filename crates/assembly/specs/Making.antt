@@ -1,20 +1,22 @@
 -- 01, Refusal numbers; Buffers and section records. What is asked of sizes, and what is made of a table in lent buffers.
-use Rattle.std.specs.Prelude.{ℕ, ◌-◌, ◌*◌, not, List, ◌∷◌, eqb, ltb, Float, length}
+use Rattle.std.specs.Prelude.{ℕ, ◌-◌, ◌*◌, not, List, ◌∷◌, eqb, ltb, Float, length, Result, Ok, Err}
 use Rattle.numbers.specs.OneOutcome.{pair}
 use Rattle.numbers.specs.Overlay.{overlay}
 use Rattle.numbers.specs.Sizes.{slot_count}
 use Rattle.numbers.specs.Words.{zero}
-use Rattle.refusal.specs.Refusal.{Test, first, number, ◌⇒◌}
+use Rattle.refusal.specs.Refusal.{Test, first, number, ◌⇒◌, Verdict}
+use Rattle.refusal.specs.declared.Refusal.{Refusal}
 use Rattle.refusal.specs.declared.Refusal.TheVariants.{LengthsDiffer, TooFewPoints}
-use Rattle.refusal.specs.declared.Verdict.{Verdict}
 use Rattle.table.specs.Buffers.{Buffers, Outcome, judged}
 use Rattle.table.specs.Check.{room_tests}
 use Rattle.table.specs.Table.{node_at}
 use Rattle.table.specs.declared.ends.Frame.{Frame}
 use Rattle.assembly.specs.Sections.{tag_at, slot_at, tail_of}
-use Rattle.assembly.specs.declared.making.Made.{Made}
-use Rattle.assembly.specs.declared.making.Made.TheVariants as made
 use Rattle.assembly.specs.declared.sections.Tail.{Tail}
+
+-- what making answers: the tail, or why nothing was made
+abbrev pub Made : Type 0
+Made = Result Tail Refusal
 
 -- 1, 4, 10 and 11, for so many knots and averages and lent buffers of these lengths
 abbrev pub size_tests : ℕ → ℕ → ℕ → ℕ → ℕ → List Test
@@ -39,9 +41,9 @@ module _ (p : ℕ) (x y : List Float) (frame : Frame) where
 
   -- what `make` answers and leaves where the verdict on the sizes is v
   abbrev pub made_from : Verdict → Buffers → Outcome Made
-  made_from v b = judged v made.Refused b (record { answer = made.Tail (tail_of x y frame); buffers = after b })
+  made_from v b = judged v Err b (record { answer = Ok (tail_of x y frame); buffers = after b })
 
 -- in the documents' numbers: the refusal's, or 0, with the tail
 abbrev pub made_in_numbers : Made → ℕ × Tail
-made_in_numbers (made.Tail t) = pair 0 t
-made_in_numbers (made.Refused r) = pair (number r) (record { value = zero; total = zero; from = zero })
+made_in_numbers (Ok t) = pair 0 t
+made_in_numbers (Err r) = pair (number r) (record { value = zero; total = zero; from = zero })

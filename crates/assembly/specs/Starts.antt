@@ -1,14 +1,12 @@
 -- 02, K1: the tables of ordinary size, of which it is known what each section that is not split, or split in the usual way, gives back at its own left knot.
-use Rattle.std.specs.Prelude.{ℕ, ◌+◌, ◌-◌, Bool, true, ◌&&◌, List, ◌⊎◌, ◌≡◌, Float, length}
+use Rattle.std.specs.Prelude.{ℕ, ◌+◌, ◌-◌, Bool, true, ◌&&◌, List, ◌⊎◌, ◌≡◌, Float, length, None, Option, Some}
 use Rattle.std.specs.Float.{binary64}
 use Rattle.std.specs.Float.Ieee.{le, neg, of_bits}
 use Rattle.numbers.specs.Every.{all_below}
 use Rattle.numbers.specs.Words.{◌⊖◌, zero}
 use Rattle.table.specs.Table.{at}
-use Rattle.table.specs.declared.ends.End.TheVariants as end
 use Rattle.table.specs.declared.ends.Frame.{Frame}
 use Rattle.table.specs.declared.ends.Seam.{Seam}
-use Rattle.table.specs.declared.ends.Seam.TheVariants as seam
 use Rattle.table.specs.declared.method.ConvexMonotone.{ConvexMonotone}
 pub use Rattle.choice.specs.Starts.{split_in, unusual_in, start_of}
 
@@ -41,9 +39,9 @@ abbrev pub price_modest : Float → Bool
 price_modest y = le (neg highest) y && le y highest
 
 -- the node that a seam gives
-abbrev pub seam_modest : Seam → Bool
-seam_modest seam.Absent = true
-seam_modest (seam.At count node) = price_modest node
+abbrev pub seam_modest : Option Seam → Bool
+seam_modest None = true
+seam_modest (Some s) = price_modest s.node
 
 -- period i + 1: its average, and a length that is not next to nothing, so that a slope over it is finite
 abbrev pub period_modest : List Float → List Float → ℕ → Bool
@@ -56,4 +54,4 @@ modest x y frame = knots_modest x && (method_modest frame.method && (seam_modest
 
 -- the frame of a whole table: two points are held, or both ends are free
 abbrev pub HeldOrFree : List Float → Frame → Type 0
-HeldOrFree x frame = ((length x ≡ 2) × (frame.hold ≡ true)) ⊎ ((frame.left ≡ end.Free) × (frame.right ≡ end.Free))
+HeldOrFree x frame = ((length x ≡ 2) × (frame.hold ≡ true)) ⊎ ((frame.left ≡ None) × (frame.right ≡ None))

@@ -1,8 +1,7 @@
 -- Steps of the code, which only the contracts of private functions cite: an end node from the one beside it.
 use Rattle.std.specs.Prelude.{ℕ, cond, eqb, Float}
 use Rattle.numbers.specs.Words.{zero}
-use Rattle.table.specs.Table.{outer, or_given}
-use Rattle.table.specs.declared.ends.End.{End}
+use Rattle.table.specs.Table.{outer, or_given, End}
 use Rattle.table.specs.declared.ends.Frame.{Frame}
 
 abbrev pub beside : ℕ → End → Float → Float

@@ -1,10 +1,10 @@
 // The nodes of a table, written into a lent buffer.
 ghost use Rattle.std.specs.Prelude.{◌≡◌, ◌+◌, ◌-◌, ◌≤◌, ◌<◌, length};
 ghost use Rattle.numbers.specs.Overlay.{overlay};
-ghost use Rattle.table.specs.Table.{inner, seamed, outer, or_given, middle_at, node_at};
-ghost use Rattle.assembly.specs.Steps.{beside, first_from, last_from};
+ghost use Rattle.table.specs.Table.{inner, seamed, outer, middle_at, node_at};
+ghost use Rattle.assembly.specs.Steps.{beside};
 
-use table::ends::{End, Frame, Seam};
+use table::ends::{Frame, Seam};
 
 // The node at an inner knot, from its neighbours and the averages of the periods on its two sides.
 pub fn inner(before: f64, here: f64, after: f64, y: f64, next: f64) -> f64
@@ -15,17 +15,12 @@ pub fn inner(before: f64, here: f64, after: f64, y: f64, next: f64) -> f64
     d / (d + p) * y + p / (d + p) * next
 }
 
-fn seamed(seam: Seam, i: usize, f: f64) -> f64
+fn seamed(seam: Option<Seam>, i: usize, f: f64) -> f64
     ensures { result ≡ seamed seam i f }
 {
     match seam {
-        Seam::Absent => f,
-        Seam::At(count, g) => {
-            if i == count {
-                return g;
-            }
-            f
-        }
+        Some(seam) if i == seam.count => seam.node,
+        _ => f,
     }
 }
 
@@ -33,66 +28,30 @@ fn outer(positive: bool, y: f64, f: f64) -> f64
     ensures { result ≡ outer positive y f }
 {
     let g = 1.5 * y - 0.5 * f;
-    if positive {
-        if g < 0.0 {
-            return 0.0;
-        }
+    if positive && g < 0.0 {
+        return 0.0;
     }
     g
-}
-
-fn or_given(end: End, f: f64) -> f64
-    ensures { result ≡ or_given end f }
-{
-    match end {
-        End::Free => f,
-        End::Given(g) => g,
-    }
 }
 
 fn middle_at(xs: &[f64], ys: &[f64], frame: Frame, i: usize) -> f64
     requires { (0 < i) × (i + 1 < length xs.now) × (length xs.now ≡ length ys.now) × (length xs.now ≤ 4096) }
     ensures { result ≡ middle_at xs.now ys.now frame i }
 {
-    let seam = frame.seam;
     seamed(
-        seam,
+        frame.seam,
         i,
         inner(xs[i - 1], xs[i], xs[i + 1], ys[i], ys[i + 1]),
     )
 }
 
-// The node beside an end: of two points each end has the other one beside it, as far as that is given.
-fn beside(points: usize, other: End, f: f64) -> f64
-    ensures { result ≡ beside points other f }
+// The node at one end, if it is not given: from the average beside it and the next node f. Of two points each end has the other one next to it, as far as
+// that is given.
+fn end_node(points: usize, y: f64, positive: bool, other: Option<f64>, f: f64) -> f64
+    ensures { result ≡ outer positive y (beside points other f) }
 {
-    if points == 2 {
-        return or_given(other, 0.0);
-    }
-    f
-}
-
-// The first node, from the one beside it.
-fn first_node(points: usize, y: f64, frame: Frame, f: f64) -> f64
-    ensures { result ≡ first_from points y frame f }
-{
-    let left = frame.left;
-    let right = frame.right;
-    or_given(
-        left,
-        outer(frame.method.force_positive, y, beside(points, right, f)),
-    )
-}
-
-fn last_node(points: usize, y: f64, frame: Frame, f: f64) -> f64
-    ensures { result ≡ last_from points y frame f }
-{
-    let left = frame.left;
-    let right = frame.right;
-    or_given(
-        right,
-        outer(frame.method.force_positive, y, beside(points, left, f)),
-    )
+    let next = if points == 2 { other.unwrap_or(0.0) } else { f };
+    outer(positive, y, next)
 }
 
 // Writes the nodes of a table of n points into the first n entries.
@@ -105,6 +64,10 @@ pub(crate) fn fill(xs: &[f64], ys: &[f64], frame: Frame, nodes: &mut [f64])
     for k in 0..count {
         nodes[k + 1] = middle_at(xs, ys, frame, k + 1);
     }
-    nodes[0] = first_node(xs.len(), ys[1], frame, nodes[1]);
-    nodes[last] = last_node(xs.len(), ys[last], frame, nodes[count]);
+    let points = xs.len();
+    let positive = frame.method.force_positive;
+    let left = end_node(points, ys[1], positive, frame.right, nodes[1]);
+    nodes[0] = frame.left.unwrap_or(left);
+    let right = end_node(points, ys[last], positive, frame.left, nodes[count]);
+    nodes[last] = frame.right.unwrap_or(right);
 }

@@ -1,6 +1,7 @@
 // Which section covers a period: the four steps of the choice, each part made only where the answer holds it.
 #![tactic(auto)]
 
+mod case;
 mod convex_part;
 pub mod period;
 mod quadratic_part;
@@ -10,10 +11,8 @@ ghost use Rattle.std.specs.Prelude.{◌≡◌};
 ghost use Rattle.choice.specs.Choice.{section_of, at_zero, shaped, mixed};
 ghost use Rattle.choice.specs.Steps.{first_kind, is_alone, alone_kind};
 
-use crate::convex_part::convex_part;
+use crate::case::Case;
 use crate::period::Period;
-use crate::quadratic_part::{made_alone, min_kind, quadratic_part};
-use crate::regions::{in_first, is_flat};
 use section::combination::Combination;
 use section::constant_grad::ConstantGrad;
 use section::everywhere_constant::EverywhereConstant;
@@ -22,6 +21,7 @@ use table::method::ConvexMonotone;
 
 // Any settings are taken. Those outside [0, 1] a build refuses beforehand, so for them the original has no answer to match: a
 // quadraticity below 0.0 counts as 0.0, and one above 1.0 or a NaN as 1.0.
+#[tactic(auto, unfolding(crate::specs::Choice::section_of, crate::specs::Choice::by_steps))]
 pub fn section_of(method: ConvexMonotone, period: Period) -> Section
     ensures { result ≡ section_of method period }
 {
@@ -34,7 +34,13 @@ pub fn section_of(method: ConvexMonotone, period: Period) -> Section
     }
     let g_prev = period.f_prev - period.f_average;
     let g_next = period.f_next - period.f_average;
-    if is_flat(g_prev, g_next) {
+    let case = Case {
+        method,
+        period,
+        g_prev,
+        g_next,
+    };
+    if case.is_flat() {
         return Section::ConstantGrad(ConstantGrad::new(
             period.f_prev,
             period.prev_primitive,
@@ -43,68 +49,71 @@ pub fn section_of(method: ConvexMonotone, period: Period) -> Section
             period.f_next,
         ));
     }
-    shaped(method, period, g_prev, g_next)
+    case.shaped()
 }
 
 // Whether the safe mode asks for a period that is 0 everywhere.
 fn at_zero(method: ConvexMonotone, period: Period) -> bool
     ensures { result ≡ at_zero method period }
 {
-    if method.is_safe() {
-        return period.f_average == 0.0;
-    }
-    false
+    method.is_safe() && period.f_average == 0.0
 }
 
-fn shaped(method: ConvexMonotone, period: Period, g_prev: f64, g_next: f64) -> Section
-    ensures { result ≡ shaped method period g_prev g_next }
-{
-    if is_alone(method, g_prev, g_next) {
-        return made_alone(method, period, alone_kind(method, g_prev, g_next));
+impl Case {
+    fn shaped(self) -> Section
+        ensures { result ≡ shaped self.method self.period self.g_prev self.g_next }
+    {
+        if self.is_alone() {
+            return self.made_alone(self.alone_kind());
+        }
+        self.mixed()
     }
-    mixed(method, period, g_prev, g_next)
-}
 
-// Whether the quadratic part is all of the section. Both cases are made in one place, so that the compiler puts the making in line.
-fn is_alone(method: ConvexMonotone, g_prev: f64, g_next: f64) -> bool
-    ensures { result ≡ is_alone method g_prev g_next }
-{
-    if method.quadraticity < 1.0 {
-        return in_first(g_prev, g_next);
+    // Whether the quadratic part is all of the section. Both cases are made in one place, so that the compiler puts the making in line.
+    #[tactic(auto, unfolding(crate::specs::Steps::is_alone))]
+    fn is_alone(self) -> bool
+        ensures { result ≡ is_alone self.method self.g_prev self.g_next }
+    {
+        if self.method.quadraticity < 1.0 {
+            return self.in_first();
+        }
+        true
     }
-    true
-}
 
-fn alone_kind(method: ConvexMonotone, g_prev: f64, g_next: f64) -> bool
-    ensures { result ≡ alone_kind method g_prev g_next }
-{
-    let weight = method.quadraticity;
-    if weight < 1.0 {
-        return first_kind(method, g_prev, g_next);
+    #[tactic(auto, unfolding(crate::specs::Steps::alone_kind))]
+    fn alone_kind(self) -> bool
+        ensures { result ≡ alone_kind self.method self.g_prev self.g_next }
+    {
+        let weight = self.method.quadraticity;
+        if weight < 1.0 {
+            return self.first_kind();
+        }
+        self.min_kind()
     }
-    min_kind(method, g_prev, g_next)
-}
 
-// In the first region the quadratic part is all of the section. Step 2 has picked its kind, unless there was none to make: then
-// positivity picks it by itself.
-fn first_kind(method: ConvexMonotone, g_prev: f64, g_next: f64) -> bool
-    ensures { result ≡ first_kind method g_prev g_next }
-{
-    if method.quadraticity > 0.0 {
-        return min_kind(method, g_prev, g_next);
+    // In the first region the quadratic part is all of the section. Step 2 has picked its kind, unless there was none to make: then
+    // positivity picks it by itself.
+    #[tactic(auto, unfolding(crate::specs::Steps::first_kind))]
+    fn first_kind(self) -> bool
+        ensures { result ≡ first_kind self.method self.g_prev self.g_next }
+    {
+        if self.method.quadraticity > 0.0 {
+            return self.min_kind();
+        }
+        self.method.force_positive
     }
-    method.force_positive
-}
 
-// Outside the first region. A single part keeps its own numbers: a weight of 0.0 for the other would not do the same to a NaN.
-fn mixed(method: ConvexMonotone, period: Period, g_prev: f64, g_next: f64) -> Section
-    ensures { result ≡ mixed method period g_prev g_next }
-{
-    let weight = method.quadraticity;
-    let other = convex_part(method, period, g_prev, g_next);
-    if weight > 0.0 {
-        let quadratic = quadratic_part(method, period, g_prev, g_next);
-        return Section::Combination(Combination::new(quadratic, other, weight));
+    // Outside the first region. A single part keeps its own numbers: a weight of 0.0 for the other would not do the same to a NaN.
+    #[tactic(auto, unfolding(crate::specs::Choice::mixed))]
+    fn mixed(self) -> Section
+        ensures { result ≡ mixed self.method self.period self.g_prev self.g_next }
+    {
+        let weight = self.method.quadraticity;
+        let other = self.convex_part();
+        if weight > 0.0 {
+            let quadratic = self.quadratic_part();
+            return Section::Combination(Combination::new(quadratic, other, weight));
+        }
+        other.alone()
     }
-    other.alone()
 }

@@ -1,5 +1,6 @@
 -- The entries of the column of a curve just built: at its own left knot each section answers, and in a table of ordinary size one without an unusual split
 -- gives back what its weight and the record before it tell.
+use Rattle.std.specs.Prelude.{Ok, Option}
 use Prim.Native.Nat as nat
 use Prim.Native.Nat.{ℕ, suc, ◌+◌, ◌-◌, ◌*◌, ◌≤◌, ◌<◌}
 use native.Mathlib.Omega.{arith}
@@ -27,8 +28,6 @@ use Rattle.record.specs.Number.{answer_in, or_zero}
 use Rattle.record.specs.Slots.{record_of, slots_of}
 use Rattle.record.specs.Tag.{tag_of}
 use Rattle.record.specs.Unusual.{unusual_split}
-use Rattle.record.specs.declared.reading.Found.{Found}
-use Rattle.refusal.specs.declared.Verdict.TheVariants as verdict
 use Rattle.table.specs.Buffers.{Buffers}
 use Rattle.table.specs.Sound.{Sound, Room}
 use Rattle.table.specs.Table.{at, total_at}
@@ -49,7 +48,6 @@ use Rattle.curve.specs.declared.curve.Curve.{Curve}
 use Rattle.curve.proofs.Accepted.{accepted_sound, accepted_room}
 use Rattle.query.specs.Query.{place_of, tail_section, number_in}
 use Rattle.query.specs.Strip.{total_to}
-use Rattle.query.specs.declared.answer.QueryAnswer.TheVariants as query-answer
 use Rattle.query.proofs.ReadBack.{answering, asked_of_built}
 use Rattle.query.proofs.Sides.{not_below, below}
 use Rattle.query.proofs.Whole as whole
@@ -77,7 +75,7 @@ module _ {t : Float} (total : Total t) (known : finite t ≡ true) (left right a
   by_weight (section.Combination s) = refl
 
 -- ---- the frame of a whole table, of two points or of more
-module _ (x : List Float) (method : ConvexMonotone) (hold : Bool) (seam : Seam) where
+module _ (x : List Float) (method : ConvexMonotone) (hold : Bool) (seam : Option Seam) where
   abbrev frame : Frame
   frame = whole_frame (length x) method hold seam
 
@@ -94,7 +92,7 @@ module _ (x : List Float) (method : ConvexMonotone) (hold : Bool) (seam : Seam) 
   unfolding modest
   whole_modest y = of_both (λ (f : Frame). modest_table x y method seam ≡ modest x y f) (eqb (length x) 2) _ _ refl refl
 
-module _ (x y : List Float) (method : ConvexMonotone) (hold : Bool) (seam : Seam) (b : Buffers) (accepted : build_verdict x y method seam b ≡ verdict.Accepted) where
+module _ (x y : List Float) (method : ConvexMonotone) (hold : Bool) (seam : Option Seam) (b : Buffers) (accepted : build_verdict x y method seam b ≡ Ok tt) where
   abbrev c : Curve
   c = whole.curve x y method hold seam b accepted
 
@@ -114,7 +112,7 @@ module _ (x y : List Float) (method : ConvexMonotone) (hold : Bool) (seam : Seam
   abbrev pub total : ℕ → Float
   total k = primitive (answering x y whole_frame_lem c (at x k)) (at x k)
 
-  pub asked_at_lem : (k : ℕ) (allow : Bool) → k < length x → total_to x (with_extrapolation c allow) left.tags left.slots (at x k) ≡ query-answer.Number (mark (total k))
+  pub asked_at_lem : (k : ℕ) (allow : Bool) → k < length x → total_to x (with_extrapolation c allow) left.tags left.slots (at x k) ≡ Ok (mark (total k))
   asked_at_lem k allow l =
       asked_of_built x y whole_frame_lem method seam b (with_extrapolation c allow) (at x k) accepted
       (knot_number x sound.knots sound.rise k l) (knot_inside x sound.knots sound.rise (with_extrapolation c allow) k l) (λ s. primitive s (at x k))
@@ -159,7 +157,7 @@ module _ (x y : List Float) (method : ConvexMonotone) (hold : Bool) (seam : Seam
     -- ---- so the number of its record is the entry
     pub number_here : number_at x left.tags left.slots i ≡ column_at x c left.tags left.slots i
     number_here =
-        ap (λ (f : Found). or_zero (answer_in (λ k. primitive k (at x i)) f)) (record_read_back x y whole_frame_lem i b.tags b.slots l spare.in_tags spare.in_slots)
+        ap (λ (f : Option Section). or_zero (answer_in (λ k. primitive k (at x i)) f)) (record_read_back x y whole_frame_lem i b.tags b.slots l spare.in_tags spare.in_slots)
         ∙ sym own_entry
 
     -- ---- what its record tells

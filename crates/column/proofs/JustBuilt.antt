@@ -1,4 +1,6 @@
 -- What is known of a curve that was just built: its records and its tail are those of the table, so its column is told by them.
+use Rattle.curve.specs.Curve.{Built}
+use Rattle.std.specs.Prelude.{Err, Ok, Option}
 use Prim.Native.Nat.{ℕ, ◌+◌, ◌-◌, ◌<◌}
 use mathlib.Core.Bool.{true}
 use mathlib.Core.List.{List}
@@ -7,7 +9,6 @@ use lib.Ieee.{Float}
 use lib.ListN.{length}
 use Rattle.section.specs.EverywhereConstant as constant
 use Rattle.section.specs.Section as section
-use Rattle.refusal.specs.declared.Verdict.TheVariants as verdict
 use Rattle.table.specs.Buffers.{Outcome, outcome}
 use Rattle.table.specs.Sound.{Sound, Room}
 use Rattle.table.specs.Table.{at}
@@ -15,8 +16,6 @@ use Rattle.table.specs.declared.ends.Seam.{Seam}
 use Rattle.table.specs.declared.method.ConvexMonotone.{ConvexMonotone}
 use Rattle.assembly.specs.Making.{after}
 use Rattle.curve.specs.Build.{build_verdict, whole_frame}
-use Rattle.curve.specs.declared.curve.Built.{Built}
-use Rattle.curve.specs.declared.curve.Built.TheVariants as built
 use Rattle.curve.specs.declared.curve.Curve.{Curve}
 use Rattle.curve.proofs.Accepted.{accepted_sound, accepted_room}
 use Rattle.query.specs.Query.{tail_section}
@@ -31,18 +30,18 @@ use Rattle.column.proofs.Left.{accepted_build}
 
 -- the curve that a build answered
 unfoldable pub curve_in : Curve → Built → Curve
-curve_in d (built.Curve c) = c
-curve_in d (built.Refused r) = d
+curve_in d (Ok c) = c
+curve_in d (Err r) = d
 
-module _ {x y : List Float} {method : ConvexMonotone} {seam : Seam} {curve : Curve} {tags : List ℕ} {slots : List Float} (j : JustBuilt x y method seam curve tags slots) where
+module _ {x y : List Float} {method : ConvexMonotone} {seam : Option Seam} {curve : Curve} {tags : List ℕ} {slots : List Float} (j : JustBuilt x y method seam curve tags slots) where
   abbrev o : Outcome Built
-  o = outcome (built.Curve curve) j.nodes tags slots
+  o = outcome (Ok curve) j.nodes tags slots
 
-  accepted : build_verdict x y method seam j.lent ≡ verdict.Accepted
+  accepted : build_verdict x y method seam j.lent ≡ Ok tt
   accepted = accepted_build x y method j.hold seam j.lent o curve j.is refl
 
   abbrev new : Outcome Built
-  new = record { answer = built.Curve (whole.curve x y method j.hold seam j.lent accepted); buffers = after 0 x y (whole_frame (length x) method j.hold seam) j.lent }
+  new = record { answer = Ok (whole.curve x y method j.hold seam j.lent accepted); buffers = after 0 x y (whole_frame (length x) method j.hold seam) j.lent }
 
   all : o ≡ new
   all = j.is ∙ whole.built_curve x y method j.hold seam j.lent accepted

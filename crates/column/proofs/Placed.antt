@@ -1,4 +1,5 @@
 -- What accepted places say: both are knots, and the column has an entry for each.
+use Rattle.std.specs.Prelude.{Err, Ok}
 use Prim.Native.Nat.{ℕ, ◌≤◌, ◌<◌}
 use mathlib.Core.Bool.{◌&&◌}
 use mathlib.Core.List.{List}
@@ -10,12 +11,9 @@ use lib.ListN.{length}
 use Rattle.numbers.specs.Marks.{mark}
 use Rattle.numbers.specs.declared.Marked.{Marked}
 use Rattle.numbers.proofs.Every.{and_split}
-use Rattle.refusal.specs.Refusal.{first}
+use Rattle.refusal.specs.Refusal.{first, Verdict}
 use Rattle.refusal.specs.declared.Refusal.{Refusal}
-use Rattle.refusal.specs.declared.Verdict.{Verdict}
-use Rattle.refusal.specs.declared.Verdict.TheVariants as verdict
 use Rattle.refusal.proofs.First.{passed}
-use Rattle.query.specs.declared.answer.QueryAnswer.TheVariants as query-answer
 use Rattle.column.specs.Between.{between_tests, between_by}
 
 pub record Placed (x : List Float) (column i j : ℕ) : Type 0 where
@@ -24,15 +22,15 @@ pub record Placed (x : List Float) (column i j : ℕ) : Type 0 where
   pub order : i < j
   pub inside : j < length x
 
-pub placed : (x : List Float) (column i j : ℕ) → first (between_tests x column i j) ≡ verdict.Accepted → Placed x column i j
+pub placed : (x : List Float) (column i j : ℕ) → first (between_tests x column i j) ≡ Ok tt → Placed x column i j
 placed x column i j h =
     let (_, (_, (_, (high, (room, (order, _)))))) = passed (between_tests x column i j) h in
     let (before, within) = and_split (ltb i j) (ltb j (length x)) (not-false (ltb i j && ltb j (length x)) order) in
     record { high = ltb-false 4096 (length x) high; room = ltb-false column (length x) room; order = ltb-true i j before; inside = ltb-true j (length x) within }
 
 -- an answer by the verdict
-pub between : (v : Verdict) (price : Float) (m : Marked) → v ≡ verdict.Accepted → m ≡ mark price → query-answer.Number m ≡ between_by v price
+pub between : (v : Verdict) (price : Float) (m : Marked) → v ≡ Ok tt → m ≡ mark price → Ok m ≡ between_by v price
 between v price m e f = rw (e, f)
 
-pub not_between : (v : Verdict) (r : Refusal) (price : Float) → v ≡ verdict.Refused r → query-answer.Refused r ≡ between_by v price
+pub not_between : (v : Verdict) (r : Refusal) (price : Float) → v ≡ Err r → Err r ≡ between_by v price
 not_between v r price e = rw e

@@ -1,15 +1,12 @@
 -- 02, K1: the strip between two knot places, by two entries of the column. K7: it is marked by its own number.
-use Rattle.std.specs.Prelude.{ℕ, not, ◌&&◌, List, [], ◌∷◌, ltb, Float, length}
+use Rattle.query.specs.Query.{QueryAnswer}
+use Rattle.std.specs.Prelude.{ℕ, not, ◌&&◌, List, [], ◌∷◌, ltb, Float, length, Err, Ok}
 use Rattle.numbers.specs.Marks.{mark}
 use Rattle.numbers.specs.Words.{◌⊖◌, ◌⊘◌}
-use Rattle.refusal.specs.Refusal.{Test, ◌⇒◌, first}
+use Rattle.refusal.specs.Refusal.{Test, ◌⇒◌, first, Verdict}
 use Rattle.refusal.specs.declared.Refusal.TheVariants.{TooFewPoints, KnotNotFinite, KnotsNotRising, TooManyPoints, BufferTooShort, StripEndsNotRising}
-use Rattle.refusal.specs.declared.Verdict.{Verdict}
-use Rattle.refusal.specs.declared.Verdict.TheVariants as verdict
 use Rattle.table.specs.Check.{all_finite, rising}
 use Rattle.table.specs.Table.{at}
-use Rattle.query.specs.declared.answer.QueryAnswer.{QueryAnswer}
-use Rattle.query.specs.declared.answer.QueryAnswer.TheVariants as query-answer
 
 -- 4, 5, 7, 10, 11 of the column, 18 also for a place past the last
 abbrev pub between_tests : List Float → ℕ → ℕ → ℕ → List Test
@@ -23,8 +20,8 @@ between_tests x column i j =
     ∷ []
 
 abbrev pub between_by : Verdict → Float → QueryAnswer
-between_by verdict.Accepted price = query-answer.Number (mark price)
-between_by (verdict.Refused r) price = query-answer.Refused r
+between_by (Ok tt) price = Ok (mark price)
+between_by (Err r) price = Err r
 
 abbrev pub between_at : List Float → List Float → ℕ → ℕ → QueryAnswer
 between_at x column i j = between_by (first (between_tests x (length column) i j)) ((at column j ⊖ at column i) ⊘ (at x j ⊖ at x i))

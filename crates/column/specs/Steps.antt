@@ -1,6 +1,8 @@
 -- Steps of the code, which only the contracts of private functions cite.
+use Rattle.curve.specs.Curve.{Built}
+use Rattle.refusal.specs.Refusal.{Verdict}
 use Prim.Native.Nat as nat
-use Rattle.std.specs.Prelude.{ℕ, suc, ◌+◌, ◌-◌, ◌*◌, ◌≤◌, ◌<◌, Bool, true, false, cond, ◌&&◌, List, ◌≡◌, Float, length, get_or, take, drop}
+use Rattle.std.specs.Prelude.{ℕ, suc, ◌+◌, ◌-◌, ◌*◌, ◌≤◌, ◌<◌, Bool, true, false, cond, ◌&&◌, List, ◌≡◌, Float, length, get_or, take, drop, Err, Ok, Option}
 use Rattle.numbers.specs.Every.{all_below}
 use Rattle.numbers.specs.Overlay.{overlay}
 use Rattle.numbers.specs.Sizes.{slot_count}
@@ -12,8 +14,6 @@ use Rattle.record.specs.Reading.{record_at}
 use Rattle.record.specs.Tag.{split_tag}
 use Rattle.record.specs.Unusual.{unusual_split}
 use Rattle.refusal.specs.declared.Refusal.TheVariants.{BufferTooShort}
-use Rattle.refusal.specs.declared.Verdict.{Verdict}
-use Rattle.refusal.specs.declared.Verdict.TheVariants as verdict
 use Rattle.table.specs.Buffers.{Buffers, outcome}
 use Rattle.table.specs.Table.{at}
 use Rattle.table.specs.declared.ends.Seam.{Seam}
@@ -21,31 +21,29 @@ use Rattle.table.specs.declared.method.ConvexMonotone.{ConvexMonotone}
 use Rattle.choice.specs.Starts.{mixing}
 use Rattle.assembly.specs.Starts.{knots_modest, method_modest, seam_modest, period_modest}
 use Rattle.curve.specs.Build.{build_outcome}
-use Rattle.curve.specs.declared.curve.Built.{Built}
-use Rattle.curve.specs.declared.curve.Built.TheVariants as built
 use Rattle.curve.specs.declared.curve.Curve.{Curve}
 use Rattle.column.specs.Column.{column_at}
 
 -- what a check of the table says where its column is too short
 abbrev pub last_verdict : Verdict → Built
-last_verdict verdict.Accepted = built.Refused BufferTooShort
-last_verdict (verdict.Refused r) = built.Refused r
+last_verdict (Ok tt) = Err BufferTooShort
+last_verdict (Err r) = Err r
 
 -- the column after a build: that of the curve, and after a refusal as it was
 abbrev pub column_of : List Float → Built → List ℕ → List Float → List Float → List Float
-column_of x (built.Refused r) tags slots column = column
-column_of x (built.Curve c) tags slots column = overlay 0 (length x) (column_at x c tags slots) column
+column_of x (Err r) tags slots column = column
+column_of x (Ok c) tags slots column = overlay 0 (length x) (column_at x c tags slots) column
 
 -- a table of ordinary size, by its settings alone
-abbrev pub modest_table : List Float → List Float → ConvexMonotone → Seam → Bool
+abbrev pub modest_table : List Float → List Float → ConvexMonotone → Option Seam → Bool
 modest_table x y method seam = knots_modest x && (method_modest method && (seam_modest seam && all_below (length x - 1) (period_modest x y)))
 
 -- the curve and the records are those that a build of the table answers and leaves, whatever buffers were lent to it and whether it was held
-pub record JustBuilt (x y : List Float) (method : ConvexMonotone) (seam : Seam) (curve : Curve) (tags : List ℕ) (slots : List Float) : Type 0 where
+pub record JustBuilt (x y : List Float) (method : ConvexMonotone) (seam : Option Seam) (curve : Curve) (tags : List ℕ) (slots : List Float) : Type 0 where
   pub hold : Bool
   pub lent : Buffers
   pub nodes : List Float
-  pub is : outcome (built.Curve curve) nodes tags slots ≡ build_outcome x y method hold seam lent
+  pub is : outcome (Ok curve) nodes tags slots ≡ build_outcome x y method hold seam lent
 
 -- the total before section i: +0.0, and then what the record before holds
 abbrev pub total_before : List Float → ℕ → Float
@@ -57,7 +55,7 @@ abbrev pub whole_total : List Float → List Float → Float
 whole_total x slots = at slots (slot_count * (length x - 2) + total_after)
 
 -- the entries can be read off the records
-abbrev pub readable : List Float → List Float → ConvexMonotone → Seam → List Float → Bool
+abbrev pub readable : List Float → List Float → ConvexMonotone → Option Seam → List Float → Bool
 readable x y method seam slots = modest_table x y method seam && finite (whole_total x slots)
 
 -- a total weighed against itself

@@ -3,47 +3,39 @@ ghost use Rattle.std.specs.Prelude.{◌≡◌, length};
 ghost use Rattle.refusal.specs.Refusal.{first};
 ghost use Rattle.column.specs.Between.{between_tests, between_at};
 
-use numbers::mark;
-use query::answer::QueryAnswer;
-use refusal::{Refusal, Verdict};
+use numbers::{Marked, mark};
+use refusal::Refusal;
 use table::check::knots_of;
 
-fn places_verdict(xs: &[f64], column: usize, i: usize, j: usize) -> Verdict
+fn places_verdict(xs: &[f64], column: usize, i: usize, j: usize) -> Result<(), Refusal>
     ensures { result ≡ first (between_tests xs.now column i j) }
 {
     if xs.len() < 2 {
-        return Verdict::Refused(Refusal::TooFewPoints);
+        return Err(Refusal::TooFewPoints);
     }
     let knots = knots_of(xs);
     if !knots.finite {
-        return Verdict::Refused(Refusal::KnotNotFinite);
+        return Err(Refusal::KnotNotFinite);
     }
     if !knots.rising {
-        return Verdict::Refused(Refusal::KnotsNotRising);
+        return Err(Refusal::KnotsNotRising);
     }
     if 4096 < xs.len() {
-        return Verdict::Refused(Refusal::TooManyPoints);
+        return Err(Refusal::TooManyPoints);
     }
     if column < xs.len() {
-        return Verdict::Refused(Refusal::BufferTooShort);
+        return Err(Refusal::BufferTooShort);
     }
-    if i < j {
-        if j < xs.len() {
-            return Verdict::Accepted;
-        }
+    if i < j && j < xs.len() {
+        return Ok(());
     }
-    Verdict::Refused(Refusal::StripEndsNotRising)
+    Err(Refusal::StripEndsNotRising)
 }
 
 // The average price from knot i to knot j, both counted from 0. It is marked by its own number, and not by those of its two ends.
-pub fn strip_between(xs: &[f64], column: &[f64], i: usize, j: usize) -> QueryAnswer
+pub fn strip_between(xs: &[f64], column: &[f64], i: usize, j: usize) -> Result<Marked, Refusal>
     ensures { result ≡ between_at xs.now column.now i j }
 {
-    match places_verdict(xs, column.len(), i, j) {
-        Verdict::Refused(refusal) => QueryAnswer::Refused(refusal),
-        Verdict::Accepted => {
-            let price = (column[j] - column[i]) / (xs[j] - xs[i]);
-            QueryAnswer::Number(mark(price))
-        }
-    }
+    places_verdict(xs, column.len(), i, j)?;
+    Ok(mark((column[j] - column[i]) / (xs[j] - xs[i])))
 }

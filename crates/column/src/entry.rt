@@ -2,16 +2,13 @@
 ghost use Rattle.std.specs.Prelude.{◌≡◌};
 ghost use Rattle.column.specs.Entry.{entry_of};
 
-use numbers::mark;
-use query::answer::QueryAnswer;
+use numbers::{Marked, mark};
 use refusal::Refusal;
 
 // The total up to knot i, counted from 0.
-pub fn entry(column: &[f64], i: usize) -> QueryAnswer
+pub fn entry(column: &[f64], i: usize) -> Result<Marked, Refusal>
     ensures { result ≡ entry_of column.now i }
 {
-    if i < column.len() {
-        return QueryAnswer::Number(mark(column[i]));
-    }
-    QueryAnswer::Refused(Refusal::BufferTooShort)
+    let total = column.get(i).ok_or(Refusal::BufferTooShort)?;
+    Ok(mark(*total))
 }

@@ -12,7 +12,7 @@ ghost use Rattle.column.specs.Steps.{modest_table, readable, JustBuilt, weighed_
 use curve::curve::Curve;
 use numbers::{SLOTS, is_finite};
 use record::knots::TOTAL_AFTER;
-use record::number::primitive_in;
+use record::number::{or_zero, primitive_in};
 use record::tag::is_split;
 use record::unusual::is_unusual;
 use section::everywhere_constant::EverywhereConstant;
@@ -37,12 +37,12 @@ fn is_modest_price(y: f64) -> bool
     (-HIGHEST <= y) & (y <= HIGHEST)
 }
 
-fn is_modest_seam(seam: Seam) -> bool
+fn is_modest_seam(seam: Option<Seam>) -> bool
     ensures { result ≡ seam_modest seam }
 {
     match seam {
-        Seam::Absent => true,
-        Seam::At(_, node) => is_modest_price(node),
+        None => true,
+        Some(seam) => is_modest_price(seam.node),
     }
 }
 
@@ -60,7 +60,7 @@ fn are_modest_periods(xs: &[f64], ys: &[f64], periods: usize) -> bool
 }
 
 // Whether a table is of ordinary size.
-fn is_modest(xs: &[f64], ys: &[f64], method: ConvexMonotone, seam: Seam) -> bool
+fn is_modest(xs: &[f64], ys: &[f64], method: ConvexMonotone, seam: Option<Seam>) -> bool
     requires { (2 ≤ length xs.now) × (length xs.now ≡ length ys.now) × (length xs.now ≤ 4096) }
     ensures { result ≡ modest_table xs.now ys.now method seam }
 {
@@ -73,7 +73,13 @@ fn is_modest(xs: &[f64], ys: &[f64], method: ConvexMonotone, seam: Seam) -> bool
 }
 
 // Whether the entries can be read off the records: the table is of ordinary size, and the total after its last period, and so every total, is finite.
-fn is_readable(xs: &[f64], ys: &[f64], method: ConvexMonotone, seam: Seam, slots: &[f64]) -> bool
+fn is_readable(
+    xs: &[f64],
+    ys: &[f64],
+    method: ConvexMonotone,
+    seam: Option<Seam>,
+    slots: &[f64],
+) -> bool
     requires { (2 ≤ length xs.now) × (length xs.now ≡ length ys.now) × (length xs.now ≤ 4096) × (slot_count * (length xs.now - 1) ≤ length slots.now) }
     ensures { result ≡ readable xs.now ys.now method seam slots.now }
 {
@@ -157,7 +163,7 @@ fn ask_listed(
         let tag = tags[i];
         let from = SLOTS * i;
         if is_unusual(tag, &slots[from..from + SLOTS], xs[i]) {
-            column[i] = primitive_in(tag, &slots[from..from + SLOTS], xs[i]).or_zero();
+            column[i] = or_zero(primitive_in(tag, &slots[from..from + SLOTS], xs[i]));
         }
     }
 }
@@ -218,7 +224,7 @@ fn ask_sections(xs: &[f64], tags: &[u16], slots: &[f64], sections: usize, column
     for i in 0..sections {
         let from = SLOTS * i;
         let answer = primitive_in(tags[i], &slots[from..from + SLOTS], xs[i]);
-        column[i] = answer.or_zero();
+        column[i] = or_zero(answer);
     }
 }
 
@@ -227,7 +233,7 @@ pub(crate) fn fill(
     xs: &[f64],
     ys: &[f64],
     method: ConvexMonotone,
-    seam: Seam,
+    seam: Option<Seam>,
     curve: Curve,
     tags: &[u16],
     slots: &[f64],

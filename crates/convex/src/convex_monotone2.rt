@@ -36,6 +36,7 @@ impl ConvexMonotone2 {
         }
     }
 
+    #[tactic(auto, unfolding(crate::specs::ConvexMonotone2::value))]
     pub fn value(self, x: f64) -> f64
         ensures { result ≡ value self x }
     {
@@ -50,6 +51,7 @@ impl ConvexMonotone2 {
                 * (x_val - self.eta2)
     }
 
+    #[tactic(auto, unfolding(crate::specs::ConvexMonotone2::primitive))]
     pub fn primitive(self, x: f64) -> f64
         ensures { result ≡ primitive self x }
     {

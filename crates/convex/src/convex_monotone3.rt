@@ -36,6 +36,7 @@ impl ConvexMonotone3 {
         }
     }
 
+    #[tactic(auto, unfolding(crate::specs::ConvexMonotone3::value))]
     pub fn value(self, x: f64) -> f64
         ensures { result ≡ value self x }
     {
@@ -50,6 +51,7 @@ impl ConvexMonotone3 {
         self.f_average + self.g_next
     }
 
+    #[tactic(auto, unfolding(crate::specs::ConvexMonotone3::primitive))]
     pub fn primitive(self, x: f64) -> f64
         ensures { result ≡ primitive self x }
     {

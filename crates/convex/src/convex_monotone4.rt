@@ -81,6 +81,7 @@ impl ConvexMonotone4 {
                             - 1.0 / 3.0 * self.eta4 * self.eta4 * self.eta4))
     }
 
+    #[tactic(auto, unfolding(crate::specs::ConvexMonotone4::value))]
     pub fn value(self, x: f64) -> f64
         ensures { result ≡ value self x }
     {
@@ -91,6 +92,7 @@ impl ConvexMonotone4 {
         self.right_value(x_val)
     }
 
+    #[tactic(auto, unfolding(crate::specs::ConvexMonotone4::primitive))]
     pub fn primitive(self, x: f64) -> f64
         ensures { result ≡ primitive self x }
     {

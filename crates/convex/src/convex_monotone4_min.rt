@@ -8,6 +8,7 @@ use numbers::NARROW;
 #[derive(Clone, Copy)]
 pub struct ConvexMonotone4Min {
     pub base: ConvexMonotone4,
+    // A flag with its numbers beside it, and no Option of them: the original's fields carry over, and a record has their slots.
     pub split_region: bool,
     pub x_ratio: f64,
     pub x2: f64,
@@ -26,6 +27,7 @@ fn unsplit(base: ConvexMonotone4) -> ConvexMonotone4Min
     }
 }
 
+#[tactic(auto, unfolding(crate::specs::ConvexMonotone4Min::split))]
 fn split(old: ConvexMonotone4) -> ConvexMonotone4Min
     ensures { result ≡ split old }
 {
@@ -56,6 +58,7 @@ fn split(old: ConvexMonotone4) -> ConvexMonotone4Min
     }
 }
 
+#[tactic(auto, unfolding(crate::specs::ConvexMonotone4Min::of_base))]
 fn of_base(base: ConvexMonotone4) -> ConvexMonotone4Min
     ensures { result ≡ of_base base }
 {
@@ -69,10 +72,7 @@ fn of_base(base: ConvexMonotone4) -> ConvexMonotone4Min
 fn squeezed_away(s: ConvexMonotone4Min) -> bool
     ensures { result ≡ squeezed_away s }
 {
-    if s.split_region {
-        return !(NARROW < s.x_ratio);
-    }
-    false
+    s.split_region && !(NARROW < s.x_ratio)
 }
 
 impl ConvexMonotone4Min {
@@ -122,7 +122,8 @@ impl ConvexMonotone4Min {
         )
     }
 
-    // Either of the two, in one place: a caller that may want both makes the shape once, where its answer is to stand.
+    // Either of the two, in one place: a caller that may want both makes the shape once, where its answer is to stand. Its settings' `is_safe` is the bool.
+    #[tactic(auto, unfolding(crate::specs::ConvexMonotone4Min::safe))]
     pub fn in_mode(
         safe: bool,
         x_prev: f64,
@@ -144,18 +145,16 @@ impl ConvexMonotone4Min {
             eta4,
             prev_primitive,
         ));
-        if safe {
-            if squeezed_away(made) {
-                return unsplit(ConvexMonotone4::new(
-                    x_prev,
-                    x_next,
-                    0.0,
-                    0.0,
-                    f_average,
-                    0.5,
-                    prev_primitive,
-                ));
-            }
+        if safe && squeezed_away(made) {
+            return unsplit(ConvexMonotone4::new(
+                x_prev,
+                x_next,
+                0.0,
+                0.0,
+                f_average,
+                0.5,
+                prev_primitive,
+            ));
         }
         made
     }
@@ -173,6 +172,7 @@ impl ConvexMonotone4Min {
                     + (b.g_prev - b.a) / (b.eta4 * b.eta4) * (1.0 / 3.0 * b.eta4 * b.eta4 * b.eta4))
     }
 
+    #[tactic(auto, unfolding(crate::specs::ConvexMonotone4Min::value))]
     pub fn value(self, x: f64) -> f64
         ensures { result ≡ value self x }
     {
@@ -190,6 +190,7 @@ impl ConvexMonotone4Min {
         base.right_value(1.0 - (1.0 - x_val) / self.x_ratio)
     }
 
+    #[tactic(auto, unfolding(crate::specs::ConvexMonotone4Min::primitive))]
     pub fn primitive(self, x: f64) -> f64
         ensures { result ≡ primitive self x }
     {
@@ -211,7 +212,6 @@ impl ConvexMonotone4Min {
     pub fn f_next(self) -> f64
         ensures { result ≡ f_next self }
     {
-        let base = self.base;
-        base.f_next()
+        self.base.f_next()
     }
 }

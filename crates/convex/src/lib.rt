@@ -1,4 +1,4 @@
-// The four convex monotone kinds of section.
+// The four convex monotone kinds of section. Their names, fields and parameters carry over from the original.
 #![tactic(auto)]
 
 pub mod convex_monotone2;

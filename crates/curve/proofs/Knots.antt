@@ -1,4 +1,6 @@
 -- 02, K9: the three last slots of every record that `build` leaves, and that the last record has the tail's price and total.
+use Rattle.curve.specs.Curve.{Built}
+use Rattle.std.specs.Prelude.{Err, Ok, Option}
 use Prim.Native.Nat.{ℕ, ◌-◌, ◌<◌}
 use native.Mathlib.Omega.{arith}
 use mathlib.Core.Bool.{Bool, true, false}
@@ -8,7 +10,6 @@ use borrow.Author.Tests.{eq-eqb}
 use lib.Ieee.{Float}
 use lib.ListN.{length}
 use Rattle.numbers.specs.OneOutcome.{Follows}
-use Rattle.refusal.specs.declared.Verdict.TheVariants as verdict
 use Rattle.table.specs.Buffers.{Buffers, Outcome, buffers, outcome}
 use Rattle.table.specs.Table.{total_at}
 use Rattle.table.specs.declared.ends.Frame.{Frame}
@@ -21,32 +22,30 @@ use Rattle.assembly.specs.Sections.{tail_of}
 use Rattle.assembly.specs.declared.sections.Tail.{Tail}
 use Rattle.assembly.proofs.Knots.{right_left, total_left, knots_left_lem, held_left}
 use Rattle.curve.specs.Build.{build_verdict, whole_frame, curve_of, build_outcome}
-use Rattle.curve.specs.declared.curve.Built.{Built}
-use Rattle.curve.specs.declared.curve.Built.TheVariants as built
 use Rattle.curve.specs.declared.curve.Curve.{Curve}
 use Rattle.curve.proofs.Accepted.{accepted_sound, accepted_room}
 use Rattle.curve.proofs.Careful.{verdict_in}
 use Rattle.curve.proofs.build.build.Reads as build
 
 abbrev tail_in : Tail → Built → Tail
-tail_in d (built.Curve c) = c.tail
-tail_in d (built.Refused r) = d
+tail_in d (Ok c) = c.tail
+tail_in d (Err r) = d
 
 -- every record of a whole table in these buffers
-abbrev pub KnotsIn : List Float → List Float → ConvexMonotone → Bool → Seam → Buffers → Type 0
+abbrev pub KnotsIn : List Float → List Float → ConvexMonotone → Bool → Option Seam → Buffers → Type 0
 KnotsIn x y method hold seam b = (i : ℕ) → i < length x - 1 → KnotsAt x y (whole_frame (length x) method hold seam) b.tags b.slots i
 
-module _ (x y : List Float) (method : ConvexMonotone) (hold : Bool) (seam : Seam) (b : Buffers) where
+module _ (x y : List Float) (method : ConvexMonotone) (hold : Bool) (seam : Option Seam) (b : Buffers) where
   abbrev frame : Frame
   frame = whole_frame (length x) method hold seam
 
-  module _ (o : Outcome Built) (c : Curve) (e : o ≡ build_outcome x y method hold seam b) (f : o.answer ≡ built.Curve c) where
-    accepted : build_verdict x y method seam b ≡ verdict.Accepted
+  module _ (o : Outcome Built) (c : Curve) (e : o ≡ build_outcome x y method hold seam b) (f : o.answer ≡ Ok c) where
+    accepted : build_verdict x y method seam b ≡ Ok tt
     unfolding curve_of
-    accepted = was_accepted verdict_in (build_verdict x y method seam b) built.Refused (λ r. refl) b _ refl o e (ap verdict_in f)
+    accepted = was_accepted verdict_in (build_verdict x y method seam b) Err (λ r. refl) b _ refl o e (ap verdict_in f)
 
     made : o ≡ record { answer = curve_of x y frame hold; buffers = after 0 x y frame b }
-    made = left_new (build_verdict x y method seam b) built.Refused b _ o e accepted
+    made = left_new (build_verdict x y method seam b) Err b _ o e accepted
 
     -- an answered curve was accepted, and its records are those of the table
     pub answered_knots : KnotsIn x y method hold seam o.buffers
@@ -89,27 +88,27 @@ module _ (x y : List Float) (method : ConvexMonotone) (hold : Bool) (seam : Seam
 pub build_knots : Follows build.Post (λ κ a r s.
     let (xs, (ys, (method, (hold, (given, (nodes, (tags, (slots, _)))))))) = a in
     let (_, (_, (_, (_, (_, (nodes_left, (tags_left, (slots_left, _)))))))) = s in
-    (c : Curve) → r ≡ built.Curve c → KnotsIn xs.now ys.now method hold given (buffers nodes_left.now tags_left.now slots_left.now))
+    (c : Curve) → r ≡ Ok c → KnotsIn xs.now ys.now method hold given (buffers nodes_left.now tags_left.now slots_left.now))
 build_knots κ (xs, (ys, (method, (hold, (given, (nodes, (tags, (slots, _)))))))) r (_, (_, (_, (_, (_, (nodes_left, (tags_left, (slots_left, _)))))))) p c f =
     answered_knots xs.now ys.now method hold given (buffers nodes.now tags.now slots.now) (outcome r nodes_left.now tags_left.now slots_left.now) c p f
 
 pub build_tail : Follows build.Post (λ κ a r s.
     let (xs, (ys, (method, (hold, (given, (nodes, (tags, (slots, _)))))))) = a in
     let (_, (_, (_, (_, (_, (nodes_left, (tags_left, (slots_left, _)))))))) = s in
-    (c : Curve) → r ≡ built.Curve c → (whole_frame (length xs.now) method hold given).hold ≡ false → TailInRecord (length xs.now - 2) slots_left.now c.tail)
+    (c : Curve) → r ≡ Ok c → (whole_frame (length xs.now) method hold given).hold ≡ false → TailInRecord (length xs.now - 2) slots_left.now c.tail)
 build_tail κ (xs, (ys, (method, (hold, (given, (nodes, (tags, (slots, _)))))))) r (_, (_, (_, (_, (_, (nodes_left, (tags_left, (slots_left, _)))))))) p c f h =
     answered_tail xs.now ys.now method hold given (buffers nodes.now tags.now slots.now) (outcome r nodes_left.now tags_left.now slots_left.now) c p f h
 
 pub build_held : Follows build.Post (λ κ a r s.
     let (xs, (ys, (method, (hold, (given, (nodes, (tags, (slots, _)))))))) = a in
     let (_, (_, (_, (_, (_, (nodes_left, (tags_left, (slots_left, _)))))))) = s in
-    (c : Curve) → r ≡ built.Curve c → (whole_frame (length xs.now) method hold given).hold ≡ true → HeldPrices (length xs.now - 2) ys.now slots_left.now)
+    (c : Curve) → r ≡ Ok c → (whole_frame (length xs.now) method hold given).hold ≡ true → HeldPrices (length xs.now - 2) ys.now slots_left.now)
 build_held κ (xs, (ys, (method, (hold, (given, (nodes, (tags, (slots, _)))))))) r (_, (_, (_, (_, (_, (nodes_left, (tags_left, (slots_left, _)))))))) p c f h =
     answered_held xs.now ys.now method hold given (buffers nodes.now tags.now slots.now) (outcome r nodes_left.now tags_left.now slots_left.now) c p f h
 
 pub build_two_points : Follows build.Post (λ κ a r s.
     let (xs, (ys, (method, (hold, (given, (nodes, (tags, (slots, _)))))))) = a in
     let (_, (_, (_, (_, (_, (nodes_left, (tags_left, (slots_left, _)))))))) = s in
-    (c : Curve) → r ≡ built.Curve c → length xs.now ≡ 2 → TwoPoints xs.now ys.now slots_left.now)
+    (c : Curve) → r ≡ Ok c → length xs.now ≡ 2 → TwoPoints xs.now ys.now slots_left.now)
 build_two_points κ (xs, (ys, (method, (hold, (given, (nodes, (tags, (slots, _)))))))) r (_, (_, (_, (_, (_, (nodes_left, (tags_left, (slots_left, _)))))))) p c f two =
     answered_two_points xs.now ys.now method hold given (buffers nodes.now tags.now slots.now) (outcome r nodes_left.now tags_left.now slots_left.now) c p f two

@@ -6,7 +6,7 @@ use Rattle.curve.proofs.build.build_verdict.Reads as build-verdict
 use Rattle.curve.proofs.build.whole_frame.Reads as whole_frame
 use Rattle.curve.proofs.build.build.Reads as build
 use Rattle.curve.proofs.curve.Curve.with_extrapolation.Reads as curve-with-extrapolation
-use Rattle.curve.proofs.curve.Built.in_numbers.Reads as built-in-numbers
+use Rattle.curve.proofs.curve.CurveInNumbersFromResultCurveRefusal.from.Reads as built-in-numbers
 
 pub build_verdict_unique : OneAnswer build-verdict.Post
 build_verdict_unique κ a r₁ r₂ s t p q = p ∙ sym q
@@ -20,5 +20,5 @@ build_unique κ a r₁ r₂ s t p q = p ∙ sym q
 pub curve_with_extrapolation_unique : OneAnswer curve-with-extrapolation.Post
 curve_with_extrapolation_unique κ a r₁ r₂ s t p q = p ∙ sym q
 
-pub built_in_numbers_unique : OneAnswer built-in-numbers.Post
-built_in_numbers_unique κ a r₁ r₂ s t p q = p ∙ sym q
+pub curve_in_numbers_from_unique : OneAnswer built-in-numbers.Post
+curve_in_numbers_from_unique κ a r₁ r₂ s t p q = p ∙ sym q

@@ -4,30 +4,30 @@ ghost use Rattle.refusal.specs.Refusal.{first};
 ghost use Rattle.table.specs.Buffers.{buffers, outcome};
 ghost use Rattle.curve.specs.Build.{seamed_tests, build_tests, whole_frame, build_outcome};
 
-use crate::curve::{Built, Curve};
-use assembly::making::{Made, make};
-use refusal::{Refusal, Verdict};
+use crate::curve::Curve;
+use assembly::making::make;
+use refusal::Refusal;
 use table::check::{average_below, room_verdict, seam_too_long, table_verdict};
-use table::ends::{End, Frame, Seam};
+use table::ends::{Frame, Seam};
 use table::method::ConvexMonotone;
 
 // Refusals 1 to 8 and 29.
-fn seamed_verdict(xs: &[f64], ys: &[f64], method: ConvexMonotone, seam: Seam) -> Verdict
+fn seamed_verdict(
+    xs: &[f64],
+    ys: &[f64],
+    method: ConvexMonotone,
+    seam: Option<Seam>,
+) -> Result<(), Refusal>
     ensures { result ≡ first (seamed_tests xs.now ys.now method seam) }
 {
-    let verdict = table_verdict(xs, ys, method);
-    match verdict {
-        Verdict::Refused(_) => verdict,
-        Verdict::Accepted => {
-            if seam_too_long(seam, xs.len()) {
-                return Verdict::Refused(Refusal::SeamTooLong);
-            }
-            if average_below(ys, method) {
-                return Verdict::Refused(Refusal::AverageBelowZero);
-            }
-            Verdict::Accepted
-        }
+    table_verdict(xs, ys, method)?;
+    if seam_too_long(seam, xs.len()) {
+        return Err(Refusal::SeamTooLong);
     }
+    if average_below(ys, method) {
+        return Err(Refusal::AverageBelowZero);
+    }
+    Ok(())
 }
 
 // The first refusal of a table, for lent buffers of these lengths.
@@ -35,22 +35,19 @@ pub fn build_verdict(
     xs: &[f64],
     ys: &[f64],
     method: ConvexMonotone,
-    seam: Seam,
+    seam: Option<Seam>,
     nodes: usize,
     tags: usize,
     slots: usize,
-) -> Verdict
+) -> Result<(), Refusal>
     ensures { result ≡ first (build_tests xs.now ys.now method seam nodes tags slots) }
 {
-    let verdict = seamed_verdict(xs, ys, method, seam);
-    match verdict {
-        Verdict::Refused(_) => verdict,
-        Verdict::Accepted => room_verdict(xs.len(), nodes, tags, slots),
-    }
+    seamed_verdict(xs, ys, method, seam)?;
+    room_verdict(xs.len(), nodes, tags, slots)
 }
 
 // What is given about a whole table. Two points are one constant section, and their nodes are +0.0.
-pub fn whole_frame(points: usize, method: ConvexMonotone, hold: bool, seam: Seam) -> Frame
+pub fn whole_frame(points: usize, method: ConvexMonotone, hold: bool, seam: Option<Seam>) -> Frame
     ensures { result ≡ whole_frame points method hold seam }
 {
     if points == 2 {
@@ -58,8 +55,8 @@ pub fn whole_frame(points: usize, method: ConvexMonotone, hold: bool, seam: Seam
             method,
             hold: true,
             seam,
-            left: End::Given(0.0),
-            right: End::Given(0.0),
+            left: Some(0.0),
+            right: Some(0.0),
             start: 0.0,
         };
     }
@@ -67,8 +64,8 @@ pub fn whole_frame(points: usize, method: ConvexMonotone, hold: bool, seam: Seam
         method,
         hold,
         seam,
-        left: End::Free,
-        right: End::Free,
+        left: None,
+        right: None,
         start: 0.0,
     }
 }
@@ -80,26 +77,20 @@ pub fn build(
     ys: &[f64],
     method: ConvexMonotone,
     hold: bool,
-    seam: Seam,
+    seam: Option<Seam>,
     nodes: &mut [f64],
     tags: &mut [u16],
     slots: &mut [f64],
-) -> Built
+) -> Result<Curve, Refusal>
     ensures { outcome result nodes.new tags.new slots.new ≡ build_outcome xs.now ys.now method hold seam (buffers nodes.old tags.old slots.old) }
 {
-    match seamed_verdict(xs, ys, method, seam) {
-        Verdict::Refused(refusal) => Built::Refused(refusal),
-        Verdict::Accepted => {
-            let frame = whole_frame(xs.len(), method, hold, seam);
-            match make(xs, ys, frame, nodes, tags, slots) {
-                Made::Refused(refusal) => Built::Refused(refusal),
-                Made::Tail(tail) => Built::Curve(Curve {
-                    sections: xs.len() - 1,
-                    held: hold,
-                    extrapolates: false,
-                    tail,
-                }),
-            }
-        }
-    }
+    seamed_verdict(xs, ys, method, seam)?;
+    let frame = whole_frame(xs.len(), method, hold, seam);
+    let tail = make(xs, ys, frame, nodes, tags, slots)?;
+    Ok(Curve {
+        sections: xs.len() - 1,
+        held: hold,
+        extrapolates: false,
+        tail,
+    })
 }

@@ -13,13 +13,6 @@ pub struct Curve {
     pub tail: Tail,
 }
 
-// What a build answers.
-#[derive(Clone, Copy)]
-pub enum Built {
-    Curve(Curve),
-    Refused(Refusal),
-}
-
 impl Curve {
     // The same curve, with queries outside its knots allowed or not. A curve is built with them off.
     pub fn with_extrapolation(mut self, allow: bool) -> Self
@@ -40,22 +33,19 @@ pub struct CurveInNumbers {
     pub tail: Tail,
 }
 
-impl Built {
-    pub fn in_numbers(self) -> CurveInNumbers
-        ensures { result ≡ curve_in_numbers self }
-    {
-        match self {
-            Built::Curve(curve) => {
-                let tail = curve.tail;
-                CurveInNumbers {
-                    refusal: 0,
-                    sections: curve.sections,
-                    held: curve.held,
-                    extrapolates: curve.extrapolates,
-                    tail,
-                }
-            }
-            Built::Refused(refusal) => CurveInNumbers {
+impl From<Result<Curve, Refusal>> for CurveInNumbers {
+    ghost from_gives = { λ built n. n ≡ curve_in_numbers built };
+
+    fn from(built: Result<Curve, Refusal>) -> Self {
+        match built {
+            Ok(curve) => CurveInNumbers {
+                refusal: 0,
+                sections: curve.sections,
+                held: curve.held,
+                extrapolates: curve.extrapolates,
+                tail: curve.tail,
+            },
+            Err(refusal) => CurveInNumbers {
                 refusal: refusal.number(),
                 sections: 0,
                 held: false,

@@ -1,18 +1,11 @@
 // Reads an order from standard input and writes its answer.
 #![tactic(auto)]
 
-ghost use Rattle.std.specs.Prelude.{◌≡◌, ◌≤◌, IfOk, length};
+ghost use Rattle.std.specs.Prelude.{◌≤◌, IfOk, length};
 
-use order::answer::{OrderAnswer, answer};
+use order::answer::answer;
 use std::io;
 use std::io::Read;
-
-// One byte more than the longest order has: an order that fills it is too long, and so malformed.
-fn room() -> [u8; 3733]
-    ensures { 3733 ≡ length result }
-{
-    [0; 3733]
-}
 
 // Reads until the buffer is full or the input ends, and tells how many bytes it put at the buffer's start.
 fn read_full<R: Read>(reader: &mut R, buffer: &mut [u8]) -> io::Result<usize>
@@ -30,11 +23,12 @@ fn read_full<R: Read>(reader: &mut R, buffer: &mut [u8]) -> io::Result<usize>
 }
 
 fn main(rt: HostRuntime) -> io::Result<()> {
-    let mut order = room();
+    // One byte more than the longest order has: an order that fills it is too long, and so malformed.
+    let mut order = [0; 3733];
     let n = read_full(&mut rt.reader(), &mut order)?;
     let mut text = [0u8; 2506];
     let answered = answer(&order[..n], &mut text);
-    let OrderAnswer::Text(long) = answered else {
+    let Ok(long) = answered else {
         // The longest text fits, so there is always one.
         unreachable!()
     };

@@ -1,4 +1,5 @@
 -- What crosses the boundary of a curve with its column.
+use Rattle.std.specs.Prelude.{Err, Ok}
 use Prim.Native.Nat.{ℕ}
 use mathlib.Core.Bool.{Bool, true, false}
 use mathlib.Core.List.{List}
@@ -9,9 +10,7 @@ use lib.ListN.{length}
 use Rattle.refusal.specs.Refusal.{number}
 use Rattle.refusal.specs.declared.Refusal.TheVariants.{SplitUnknown}
 use Rattle.table.specs.Buffers.{Buffers, Outcome}
-use Rattle.curve.specs.Curve.{curve_in_numbers}
-use Rattle.curve.specs.declared.curve.Built.{Built}
-use Rattle.curve.specs.declared.curve.Built.TheVariants as built
+use Rattle.curve.specs.Curve.{curve_in_numbers, Built}
 use Rattle.column.specs.Column.{Columned, column_by, with_column}
 use Rattle.export_build.specs.Building.{no_answer, short_refusal, count_left, tail_left}
 use Rattle.export_build.specs.Columns.{ColumnAcross, in_mode_column}
@@ -41,6 +40,6 @@ pub short_with : (x : List Float) (b : Buffers) (column : List Float) (o : Outco
 short_with x b column o = by o.answer (ltb (length column) (length x)) refl
   where
     by : (k : Built) (short : Bool) → ltb (length column) (length x) ≡ short → short_refusal k ≡ short_refusal (column_by x b column k o.buffers).answer
-    by (built.Refused r) short e = refl
-    by (built.Curve c) true e = rw e
-    by (built.Curve c) false e = rw e
+    by (Err r) short e = refl
+    by (Ok c) true e = rw e
+    by (Ok c) false e = rw e

@@ -1,4 +1,5 @@
 -- What crosses the boundary of delivery months, by the tests that led there.
+use Rattle.std.specs.Prelude.{Err, Ok, Option}
 use Prim.Native.Nat.{ℕ, ◌≤◌, ◌<◌}
 use mathlib.Core.Bool.{Bool, true, false}
 use mathlib.Core.List.{List}
@@ -11,24 +12,19 @@ use mir.Syntax.{w64}
 use mir.Val.{SFits, to_z, of_z}
 use mir.ValLaws.{to_z-of_z}
 use Rattle.numbers.specs.OneOutcome.{pair}
-use Rattle.refusal.specs.Refusal.{number}
+use Rattle.refusal.specs.Refusal.{number, Verdict}
 use Rattle.refusal.specs.declared.Refusal.{Refusal}
 use Rattle.refusal.specs.declared.Refusal.TheVariants.{MonthsNotPeriods, BufferTooShort, SplitUnknown}
-use Rattle.refusal.specs.declared.Verdict.{Verdict}
-use Rattle.refusal.specs.declared.Verdict.TheVariants as verdict
 use Rattle.table.specs.Buffers.{Buffers}
 use Rattle.table.specs.declared.method.ConvexMonotone.{ConvexMonotone}
 use Rattle.table.specs.declared.ends.Seam.{Seam}
 use Rattle.curve.specs.Build.{curve_of}
 use Rattle.curve.specs.Curve.{curve_in_numbers}
 use Rattle.months.specs.Building.{Monthly, months_verdict, monthly_by, monthly_built, monthly_outcome}
-use Rattle.months.specs.Knots.{knots_made, room_test}
+use Rattle.months.specs.Knots.{knots_made, room_test, MonthKnots}
 use Rattle.months.specs.Periods.{months_test, periods_asked, periods_of}
 use Rattle.months.specs.declared.periods.Size.{Size}
 use Rattle.months.specs.declared.periods.Periods.{Periods}
-use Rattle.months.specs.declared.periods.Ordered.TheVariants as ordered
-use Rattle.months.specs.declared.knots.MonthKnots.{MonthKnots}
-use Rattle.months.specs.declared.knots.MonthKnots.TheVariants as made
 use Rattle.months.proofs.Whole.{was_whole, was_refused}
 use Rattle.export_build.specs.Building.{no_answer, short_refusal, count_left, tail_left}
 use Rattle.export_build.specs.ByMonths.{no_size, size_of, not_periods, knots_across, months_across}
@@ -36,10 +32,10 @@ use Rattle.export_build.specs.Steps.{last_refusal, after_months}
 
 -- 19, or another refusal that is sure
 module _ (from to : ℤ) (size : Size) (other : Refusal) (n : ℕ) where
-  pub months_first : (r : Refusal) → periods_of from to size ≡ ordered.Refused r → n ≡ number r → n ≡ after_months from to size other
+  pub months_first : (r : Refusal) → periods_of from to size ≡ Err r → n ≡ number r → n ≡ after_months from to size other
   months_first r e f = let (none, is) = was_refused from to size r e in rw (none, f, is)
 
-  pub months_passed : (p : Periods) → periods_of from to size ≡ ordered.Whole p → n ≡ number other → n ≡ after_months from to size other
+  pub months_passed : (p : Periods) → periods_of from to size ≡ Ok p → n ≡ number other → n ≡ after_months from to size other
   months_passed p e f = let (whole, _) = was_whole from to size p e in rw (whole, f)
 
 -- the knots
@@ -58,14 +54,14 @@ module _ (from to : ℤ) (months : ℕ) (knots : List Float) (count : List ℕ) 
         by false ht false hk = rw (known, e, ht, hk, lt-ltb _ _ h)
 
     module _ (answer : MonthKnots) (new : List Float) (e : pair answer new ≡ knots_made from to (size_of months) knots) where
-      pub knots_refused : (r : Refusal) → answer ≡ made.Refused r → n ≡ number r → record { refusal = n; knots = new; count = count } ≡ knots_across from to months knots count
+      pub knots_refused : (r : Refusal) → answer ≡ Err r → n ≡ number r → record { refusal = n; knots = new; count = count } ≡ knots_across from to months knots count
       knots_refused r g f = rw (known, sym e, g, f)
 
-      pub knots_made_lem : (k : ℕ) → answer ≡ made.Made k → 1 ≤ length count → record { refusal = 0; knots = new; count = set count 0 k } ≡ knots_across from to months knots count
+      pub knots_made_lem : (k : ℕ) → answer ≡ Ok k → 1 ≤ length count → record { refusal = 0; knots = new; count = set count 0 k } ≡ knots_across from to months knots count
       knots_made_lem k g h = rw (known, sym e, g, le-ltb _ _ h)
 
 -- a curve
-module _ (from to : ℤ) (months : ℕ) (y : List Float) (method : ConvexMonotone) (hold : Bool) (seam : Seam) (knots : List Float) (b : Buffers) (sections : List ℕ) (tail : List Float) (is_unknown : Bool) where
+module _ (from to : ℤ) (months : ℕ) (y : List Float) (method : ConvexMonotone) (hold : Bool) (seam : Option Seam) (knots : List Float) (b : Buffers) (sections : List ℕ) (tail : List Float) (is_unknown : Bool) where
   abbrev out : Monthly
   out = monthly_outcome from to (size_of months) y method hold seam knots b
 
@@ -104,21 +100,21 @@ module _ (from to : ℤ) (months : ℕ) (y : List Float) (method : ConvexMonoton
           by false h = rw (p, q, r, e, known, split, a, h)
 
 -- the refusal where there is no room for the answers
-pub months_last : (from to : ℤ) (size : Size) (y : List Float) (method : ConvexMonotone) (hold : Bool) (seam : Seam) (knots : List Float) (b : Buffers) (v : Verdict) (n : ℕ) →
+pub months_last : (from to : ℤ) (size : Size) (y : List Float) (method : ConvexMonotone) (hold : Bool) (seam : Option Seam) (knots : List Float) (b : Buffers) (v : Verdict) (n : ℕ) →
     v ≡ months_verdict from to size y method seam (length knots) (length b.nodes) (length b.tags) (length b.slots) → n ≡ last_refusal v → n ≡ short_refusal (monthly_outcome from to size y method hold seam knots b).answer
 unfolding curve_of
 months_last from to size y method hold seam knots b v n e f = f ∙ ap last_refusal e ∙ by (months_verdict from to size y method seam (length knots) (length b.nodes) (length b.tags) (length b.slots))
   where
     by : (w : Verdict) → last_refusal w ≡ short_refusal (monthly_by w knots b (monthly_built (periods_asked from to size) y method hold seam knots b)).answer
-    by verdict.Accepted = refl
-    by (verdict.Refused r) = refl
+    by (Ok tt) = refl
+    by (Err r) = refl
 
 -- what is built with the months, the settings and the seam that came across
-pub same_months : (from to : ℤ) (f : SFits w64 from) (g : SFits w64 to) (s t : Size) (y : List Float) (m n : ConvexMonotone) (hold : Bool) (i j : Seam) (knots : List Float) (b : Buffers) → s ≡ t → m ≡ n → i ≡ j →
+pub same_months : (from to : ℤ) (f : SFits w64 from) (g : SFits w64 to) (s t : Size) (y : List Float) (m n : ConvexMonotone) (hold : Bool) (i j : Option Seam) (knots : List Float) (b : Buffers) → s ≡ t → m ≡ n → i ≡ j →
     monthly_outcome (to_z w64 (of_z w64 from)) (to_z w64 (of_z w64 to)) s y m hold i knots b ≡ monthly_outcome from to t y n hold j knots b
 same_months from to f g s t y m n hold i j knots b e h k = rw (to_z-of_z w64 from f, to_z-of_z w64 to g, e, h, k)
 
-pub same_verdict : (from to : ℤ) (f : SFits w64 from) (g : SFits w64 to) (s t : Size) (y : List Float) (m n : ConvexMonotone) (i j : Seam) (knots nodes tags slots : ℕ) → s ≡ t → m ≡ n → i ≡ j →
+pub same_verdict : (from to : ℤ) (f : SFits w64 from) (g : SFits w64 to) (s t : Size) (y : List Float) (m n : ConvexMonotone) (i j : Option Seam) (knots nodes tags slots : ℕ) → s ≡ t → m ≡ n → i ≡ j →
     months_verdict (to_z w64 (of_z w64 from)) (to_z w64 (of_z w64 to)) s y m i knots nodes tags slots ≡ months_verdict from to t y n j knots nodes tags slots
 same_verdict from to f g s t y m n i j knots nodes tags slots e h k = rw (to_z-of_z w64 from f, to_z-of_z w64 to g, e, h, k)
 

@@ -1,16 +1,14 @@
 -- 02, K2: months across the boundary, with the months of a period as a number. What comes back, and what every lent slice holds afterwards.
-use Rattle.std.specs.Prelude.{ℕ, Bool, not, cond, ◌||◌, List, eqb, ltb, Float, ℤ, length, set}
+use Rattle.std.specs.Prelude.{ℕ, Bool, not, cond, ◌||◌, List, eqb, ltb, Float, ℤ, length, set, Err, Ok}
 use Rattle.refusal.specs.Refusal.{number}
 use Rattle.refusal.specs.declared.Refusal.TheVariants.{MonthsNotPeriods, BufferTooShort, SplitUnknown}
 use Rattle.table.specs.Buffers.{Buffers, buffers}
 use Rattle.curve.specs.Curve.{curve_in_numbers}
 use Rattle.months.specs.Building.{Monthly}
-use Rattle.months.specs.Knots.{knots_made}
+use Rattle.months.specs.Knots.{knots_made, MonthKnots}
 use Rattle.months.specs.Periods.{months_test}
 use Rattle.months.specs.declared.periods.Size.{Size}
 use Rattle.months.specs.declared.periods.Size.TheVariants as size
-use Rattle.months.specs.declared.knots.MonthKnots.{MonthKnots}
-use Rattle.months.specs.declared.knots.MonthKnots.TheVariants as made
 use Rattle.export_build.specs.Building.{no_answer, short_refusal, count_left, tail_left}
 
 -- a period has 1, 3 or 12 months
@@ -36,8 +34,8 @@ knots_left refusal knots count = record { refusal = refusal; knots = knots; coun
 -- how many knots there are takes one entry; with no room for it no slice changes
 module _ (knots : List Float) (count : List ℕ) where
   abbrev pub knots_told : MonthKnots × List Float → KnotsAcross
-  knots_told (made.Refused r, new) = record { refusal = number r; knots = new; count = count }
-  knots_told (made.Made n, new) =
+  knots_told (Err r, new) = record { refusal = number r; knots = new; count = count }
+  knots_told (Ok n, new) =
       cond (ltb (length count) 1)
       (record { refusal = number BufferTooShort; knots = knots; count = count })
       (record { refusal = 0; knots = new; count = set count 0 n })

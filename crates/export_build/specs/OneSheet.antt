@@ -1,18 +1,15 @@
 -- 01, Sheets; Refusal numbers: sheet. What comes back of a sheet, and what every lent slice holds afterwards, over what `sheet` does.
-use Rattle.std.specs.Prelude.{ℕ, Bool, true, false, cond, List, ltb, Float, length, set}
+use Rattle.table.specs.Table.{End}
+use Rattle.std.specs.Prelude.{ℕ, Bool, true, false, cond, List, ltb, Float, length, set, Err, None, Ok, Some}
 use Rattle.refusal.specs.Refusal.{number}
 use Rattle.refusal.specs.declared.Refusal.TheVariants.{BufferTooShort, SplitUnknown}
 use Rattle.table.specs.Buffers.{Buffers, Outcome, buffers}
-use Rattle.table.specs.declared.ends.End.{End}
-use Rattle.table.specs.declared.ends.End.TheVariants as end
-use Rattle.sheets.specs.Sheet.{sheet_in_numbers}
-use Rattle.sheets.specs.declared.sheet.SheetBuilt.{SheetBuilt}
-use Rattle.sheets.specs.declared.sheet.SheetBuilt.TheVariants as sheet-built
+use Rattle.sheets.specs.Sheet.{sheet_in_numbers, SheetBuilt}
 
 -- an end across the boundary: whether its node is given, and the node
 abbrev pub end_of : Bool → Float → End
-end_of false node = end.Free
-end_of true node = end.Given node
+end_of false node = None
+end_of true node = Some node
 
 -- a refusal's number, or 0, and the lent slices as they are left
 pub record SheetAcross : Type 0 where
@@ -25,13 +22,13 @@ across refusal nodes tags slots answer = record { refusal = refusal; buffers = b
 
 -- with no room for a sheet's own numbers: the refusal that there is, and else 11, which comes last
 abbrev pub short_refusal : SheetBuilt → ℕ
-short_refusal (sheet-built.Sheet s) = number BufferTooShort
-short_refusal (sheet-built.Refused r) = number r
+short_refusal (Ok s) = number BufferTooShort
+short_refusal (Err r) = number r
 
 -- what the answer's slice holds: the total and the tail from the start, or what it held
 abbrev pub end_left : SheetBuilt → List Float → List Float
-end_left (sheet-built.Sheet s) old = set (set (set (set old 0 s.total) 1 s.tail.value) 2 s.tail.total) 3 s.tail.from
-end_left (sheet-built.Refused r) old = old
+end_left (Ok s) old = set (set (set (set old 0 s.total) 1 s.tail.value) 2 s.tail.total) 3 s.tail.from
+end_left (Err r) old = old
 
 -- What a call answers and leaves across the boundary. A sheet's own numbers take four entries; with no room for them no slice changes.
 abbrev pub sheet_across : Buffers → List Float → Outcome SheetBuilt → SheetAcross

@@ -9,55 +9,52 @@ ghost use Rattle.export_build.specs.Steps.{last_refusal};
 
 use crate::settings::method_of;
 use curve::build::{build, build_verdict};
-use curve::curve::Built;
-use refusal::{Refusal, Verdict};
+use curve::curve::Curve;
+use refusal::Refusal;
 use table::ends::Seam;
 
 // A seam across the boundary: whether there is one, its count and its node.
-pub(crate) fn seam_of(seamed: bool, count: usize, node: f64) -> Seam
+pub(crate) fn seam_of(seamed: bool, count: usize, node: f64) -> Option<Seam>
     ensures { result ≡ seam_of seamed count node }
 {
-    if seamed {
-        return Seam::At(count, node);
-    }
-    Seam::Absent
+    seamed.then_some(Seam { count, node })
 }
 
 // Whether there is no room for a curve's own numbers: one entry for the count of its sections, three for its tail.
 pub(crate) fn no_answer(sections: usize, tail: usize) -> bool
     ensures { result ≡ no_answer sections tail }
 {
-    if sections < 1 {
-        return true;
-    }
-    tail < 3
+    sections < 1 || tail < 3
 }
 
 // What a check says where an answer's slice is too short: its own refusal, and else that one, which comes last.
-pub(crate) fn last_refusal(verdict: Verdict) -> u8
+pub(crate) fn last_refusal(verdict: Result<(), Refusal>) -> u8
     ensures { result ≡ last_refusal verdict }
 {
     match verdict {
-        Verdict::Refused(refusal) => refusal.number(),
-        Verdict::Accepted => Refusal::BufferTooShort.number(),
+        Err(own) => own.number(),
+        Ok(()) => Refusal::BufferTooShort.number(),
     }
 }
 
 // A curve in numbers, its count and tail written where there is room for them.
-pub(crate) fn write_answer(built: Built, sections: &mut [usize], tail: &mut [f64]) -> u8
+pub(crate) fn write_answer(
+    built: Result<Curve, Refusal>,
+    sections: &mut [usize],
+    tail: &mut [f64],
+) -> u8
     requires { (1 ≤ length sections.old) × (3 ≤ length tail.old) }
     ensures refusal { result ≡ (curve_in_numbers built).refusal }
     ensures sections { sections.new ≡ count_left built sections.old }
     ensures tail { tail.new ≡ tail_left built tail.old }
 {
     match built {
-        Built::Refused(refusal) => refusal.number(),
-        Built::Curve(curve) => {
-            let end = curve.tail;
+        Err(refusal) => refusal.number(),
+        Ok(curve) => {
             sections[0] = curve.sections;
-            tail[0] = end.value;
-            tail[1] = end.total;
-            tail[2] = end.from;
+            tail[0] = curve.tail.value;
+            tail[1] = curve.tail.total;
+            tail[2] = curve.tail.from;
             0
         }
     }

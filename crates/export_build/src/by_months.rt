@@ -10,34 +10,26 @@ ghost use Rattle.export_build.specs.Steps.{after_months};
 use crate::building::{last_refusal, no_answer, seam_of, write_answer};
 use crate::settings::method_of;
 use months::building::{build_months, build_months_verdict};
-use months::knots::{MonthKnots, month_knots};
-use months::periods::{Ordered, Size, periods_of};
+use months::knots::month_knots;
+use months::periods::{Size, periods_of};
 use refusal::Refusal;
 
 // Whether there is no period of so many months.
 fn no_size(months: u8) -> bool
     ensures { result ≡ no_size months }
 {
-    if months == 1 {
-        return false;
-    }
-    if months == 3 {
-        return false;
-    }
-    months != 12
+    months != 1 && months != 3 && months != 12
 }
 
 // The size of a period by its months. Every call refuses any other number beforehand.
 fn size_of(months: u8) -> Size
     ensures { result ≡ size_of months }
 {
-    if months == 1 {
-        return Size::Month;
+    match months {
+        1 => Size::Month,
+        3 => Size::Quarter,
+        _ => Size::Year,
     }
-    if months == 3 {
-        return Size::Quarter;
-    }
-    Size::Year
 }
 
 // What is told where another refusal is sure: 19, which comes before it, or that one.
@@ -45,8 +37,8 @@ fn after_months(first: i64, last: i64, size: Size, other: Refusal) -> u8
     ensures { result ≡ after_months first last size other }
 {
     match periods_of(first, last, size) {
-        Ordered::Refused(refusal) => refusal.number(),
-        Ordered::Whole(_) => other.number(),
+        Err(refusal) => refusal.number(),
+        Ok(_) => other.number(),
     }
 }
 
@@ -68,8 +60,8 @@ pub fn havgrunel_month_knots(
         return after_months(first, last, size, Refusal::BufferTooShort);
     }
     match month_knots(first, last, size, knots) {
-        MonthKnots::Refused(refusal) => refusal.number(),
-        MonthKnots::Made(made) => {
+        Err(refusal) => refusal.number(),
+        Ok(made) => {
             count[0] = made;
             0
         }

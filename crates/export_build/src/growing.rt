@@ -14,28 +14,25 @@ use crate::settings::method_of;
 use assembly::sections::Tail;
 use curve::build::build_verdict;
 use curve::curve::Curve;
-use growth::growth::{Carried, Previous, carry, grow};
+use growth::growth::{carry, grow};
 use refusal::Refusal;
 use table::method::ConvexMonotone;
 
 // What growth reads of the previous curve beside its records. It asks for no price, so the tail is not needed.
-pub(crate) fn previous_of(given: bool, sections: usize, held: bool) -> Previous
+pub(crate) fn previous_of(given: bool, sections: usize, held: bool) -> Option<Curve>
     ensures { result ≡ previous_of given sections held }
 {
-    if given {
-        let tail = Tail {
-            value: 0.0,
-            total: 0.0,
-            from: 0.0,
-        };
-        return Previous::Curve(Curve {
-            sections,
-            held,
-            extrapolates: false,
-            tail,
-        });
-    }
-    Previous::Absent
+    let tail = Tail {
+        value: 0.0,
+        total: 0.0,
+        from: 0.0,
+    };
+    given.then_some(Curve {
+        sections,
+        held,
+        extrapolates: false,
+        tail,
+    })
 }
 
 // The first refusal of a growing table for buffers of these lengths, where its answers have no room.
@@ -44,7 +41,7 @@ pub(crate) fn refusal_of(
     averages: &[f64],
     method: ConvexMonotone,
     localisation: usize,
-    previous: Previous,
+    previous: Option<Curve>,
     previous_tags: &[u16],
     previous_slots: &[f64],
     nodes: usize,
@@ -60,8 +57,8 @@ pub(crate) fn refusal_of(
         previous_tags,
         previous_slots,
     ) {
-        Carried::Refused(refusal) => refusal.number(),
-        Carried::Seam(seam) => {
+        Err(refusal) => refusal.number(),
+        Ok(seam) => {
             last_refusal(build_verdict(knots, averages, method, seam, nodes, tags, slots))
         }
     }

@@ -1,5 +1,5 @@
 // A table built in sheets.
-ghost use Rattle.std.specs.Prelude.{◌≡◌, length};
+ghost use Rattle.std.specs.Prelude.{None, ◌≡◌, length};
 ghost use Rattle.refusal.specs.Refusal.{first};
 ghost use Rattle.table.specs.Buffers.{buffers};
 ghost use Rattle.curve.specs.Build.{build_tests};
@@ -14,7 +14,6 @@ use crate::settings::method_of;
 use curve::build::build_verdict;
 use refusal::Refusal;
 use sheets::pieces::{build_in_sheets, cuts_fit};
-use table::ends::Seam;
 use table::method::ConvexMonotone;
 
 // The first refusal of a table in sheets for buffers of these lengths, where its answers have no room.
@@ -27,12 +26,12 @@ fn cut_refusal(
     tags: usize,
     slots: usize,
 ) -> u8
-    ensures { result ≡ last_cut (cuts_fit cuts.now (length knots.now)) (first (build_tests knots.now averages.now method Seam.Absent nodes tags slots)) }
+    ensures { result ≡ last_cut (cuts_fit cuts.now (length knots.now)) (first (build_tests knots.now averages.now method None nodes tags slots)) }
 {
     if !cuts_fit(cuts, knots.len()) {
         return Refusal::CutsNotInner.number();
     }
-    last_refusal(build_verdict(knots, averages, method, Seam::Absent, nodes, tags, slots))
+    last_refusal(build_verdict(knots, averages, method, None, nodes, tags, slots))
 }
 
 // Builds the curve of a table in sheets that end at the cuts, which are inner knots in rising order, counted from 0. All that is returned and written is

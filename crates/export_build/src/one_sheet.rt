@@ -9,8 +9,7 @@ ghost use Rattle.export_build.specs.Settings.{unknown, method_of};
 use crate::building::last_refusal;
 use crate::settings::method_of;
 use refusal::Refusal;
-use sheets::sheet::{SheetBuilt, sheet, sheet_verdict};
-use table::ends::End;
+use sheets::sheet::{SheetEnd, sheet, sheet_verdict};
 
 // The node at an inner knot, from its neighbours and the averages of the periods that end at it and at the knot after it: what the sheets on both
 // sides of a cut are given.
@@ -21,29 +20,25 @@ pub fn havgrunel_inner_node(before: f64, here: f64, after: f64, average: f64, ne
 }
 
 // An end across the boundary: whether its node is given, and the node.
-fn end_of(given: bool, node: f64) -> End
+fn end_of(given: bool, node: f64) -> Option<f64>
     ensures { result ≡ end_of given node }
 {
-    if given {
-        return End::Given(node);
-    }
-    End::Free
+    given.then_some(node)
 }
 
 // A sheet in numbers: the total after it and the tail, written where there is room for them.
-fn write_end(built: SheetBuilt, answer: &mut [f64]) -> u8
+fn write_end(built: Result<SheetEnd, Refusal>, answer: &mut [f64]) -> u8
     requires { 4 ≤ length answer.old }
     ensures refusal { result ≡ (sheet_in_numbers built).refusal }
     ensures answer { answer.new ≡ end_left built answer.old }
 {
     match built {
-        SheetBuilt::Refused(refusal) => refusal.number(),
-        SheetBuilt::Sheet(end) => {
-            let tail = end.tail;
+        Err(refusal) => refusal.number(),
+        Ok(end) => {
             answer[0] = end.total;
-            answer[1] = tail.value;
-            answer[2] = tail.total;
-            answer[3] = tail.from;
+            answer[1] = end.tail.value;
+            answer[2] = end.tail.total;
+            answer[3] = end.tail.from;
             0
         }
     }

@@ -8,13 +8,11 @@ use table::method::{ConvexMonotone, Split};
 fn split_of(split: u8) -> Split
     ensures { result ≡ split_of split }
 {
-    if split == 1 {
-        return Split::Careful;
+    match split {
+        1 => Split::Careful,
+        2 => Split::Safe,
+        _ => Split::Original,
     }
-    if split == 2 {
-        return Split::Safe;
-    }
-    Split::Original
 }
 
 // The method's numbers, positivity, and the number of the split.

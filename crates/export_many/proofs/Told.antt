@@ -6,8 +6,7 @@ use lib.Ieee.{Float}
 use Rattle.numbers.specs.OneOutcome.{pair}
 use Rattle.section.specs.declared.section.Section.{Section}
 use Rattle.curve.specs.declared.curve.Curve.{Curve}
-use Rattle.query.specs.Many.{many_outcome, many_in_numbers}
-use Rattle.query.specs.declared.answer.ManyAnswer.{ManyAnswer}
+use Rattle.query.specs.Many.{many_outcome, many_in_numbers, ManyAnswer}
 use Rattle.query.specs.declared.answer.ManyInNumbers.{ManyInNumbers}
 use Rattle.export_many.specs.Many.{numbered}
 

@@ -2,8 +2,7 @@
 -- holds.
 use Rattle.std.specs.Prelude.{ℕ, List, Float}
 use Rattle.numbers.specs.OneOutcome.{pair}
-use Rattle.query.specs.Many.{many_in_numbers}
-use Rattle.query.specs.declared.answer.ManyAnswer.{ManyAnswer}
+use Rattle.query.specs.Many.{many_in_numbers, ManyAnswer}
 use Rattle.query.specs.declared.answer.ManyInNumbers.{ManyInNumbers}
 
 abbrev pub numbered : ManyAnswer × List Float → ℕ → ManyInNumbers × List Float

@@ -24,7 +24,8 @@ pub fn havgrunel_values(
     ensures { pair result answers.new ≡ numbered (many_outcome value knots.now (curve_with tail_value tail_total tail_from extrapolate) tags.now slots.now xs.now answers.old) (length xs.now) }
 {
     let curve = curve_with(tail_value, tail_total, tail_from, extrapolate);
-    query::many::values(knots, curve, tags, slots, xs, answers).in_numbers(xs.len())
+    let answered = query::many::values(knots, curve, tags, slots, xs, answers);
+    ManyInNumbers::of(answered, xs.len())
 }
 
 // The total of all prices up to each x, in the same way.
@@ -42,5 +43,6 @@ pub fn havgrunel_primitives(
     ensures { pair result answers.new ≡ numbered (many_outcome primitive knots.now (curve_with tail_value tail_total tail_from extrapolate) tags.now slots.now xs.now answers.old) (length xs.now) }
 {
     let curve = curve_with(tail_value, tail_total, tail_from, extrapolate);
-    query::many::primitives(knots, curve, tags, slots, xs, answers).in_numbers(xs.len())
+    let answered = query::many::primitives(knots, curve, tags, slots, xs, answers);
+    ManyInNumbers::of(answered, xs.len())
 }

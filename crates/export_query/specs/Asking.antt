@@ -1,23 +1,19 @@
 -- 01, Queries, settings and growth: where a query's answer goes. 02, K7: a number that is not finite is not written.
-use Rattle.std.specs.Prelude.{ℕ, List, Float, length, set}
+use Rattle.std.specs.Prelude.{ℕ, List, Float, length, set, Err, Ok}
 use Rattle.numbers.specs.OneOutcome.{pair}
-use Rattle.refusal.specs.Refusal.{first}
-use Rattle.refusal.specs.declared.Verdict.{Verdict}
-use Rattle.refusal.specs.declared.Verdict.TheVariants as verdict
+use Rattle.refusal.specs.Refusal.{first, Verdict}
 use Rattle.query.specs.Many.{many_tests}
-use Rattle.query.specs.Query.{number_in, verdict_in, answer_in_numbers}
-use Rattle.query.specs.declared.answer.QueryAnswer.{QueryAnswer}
-use Rattle.query.specs.declared.answer.QueryAnswer.TheVariants as query-answer
+use Rattle.query.specs.Query.{number_in, verdict_in, answer_in_numbers, QueryAnswer}
 
 -- a query after the tests of 4, 5, 7, 10 and 11, of which the last is also that of the answer's own slice
 abbrev pub asked_by : Verdict → QueryAnswer → QueryAnswer
-asked_by verdict.Accepted asked = asked
-asked_by (verdict.Refused r) asked = query-answer.Refused r
+asked_by (Ok tt) asked = asked
+asked_by (Err r) asked = Err r
 
 -- a number is written where nothing refuses it
 abbrev pub left_of : Verdict → Float → List Float → List Float
-left_of verdict.Accepted v old = set old 0 v
-left_of (verdict.Refused r) v old = old
+left_of (Ok tt) v old = set old 0 v
+left_of (Err r) v old = old
 
 abbrev pub number_left : QueryAnswer → List Float → List Float
 number_left k old = left_of (verdict_in k) (number_in k) old

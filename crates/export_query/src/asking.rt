@@ -7,18 +7,19 @@ ghost use Rattle.query.specs.Query.{ask, covered_at, curve_with};
 ghost use Rattle.query.specs.Many.{many_tests};
 ghost use Rattle.export_query.specs.Asking.{left_by, answer_into};
 
-use query::answer::{QueryAnswer, curve_verdict, curve_with};
-use refusal::{Refusal, Verdict};
+use numbers::Marked;
+use query::answer::{AnswerInNumbers, curve_verdict, curve_with, derivative, finite};
+use refusal::Refusal;
 
 // An answer in numbers, written into a slice that has room for it. A number that is not finite is refused, and not written.
-fn write_answer(asked: QueryAnswer, answer: &mut [f64]) -> u8
+fn write_answer(asked: Result<Marked, Refusal>, answer: &mut [f64]) -> u8
     requires { 1 ≤ length answer.old }
     ensures { pair result answer.new ≡ left_by asked answer.old }
 {
-    match asked.verdict() {
-        Verdict::Refused(refusal) => refusal.number(),
-        Verdict::Accepted => {
-            answer[0] = asked.number();
+    match finite(asked) {
+        Err(refusal) => refusal.number(),
+        Ok(number) => {
+            answer[0] = number;
             0
         }
     }
@@ -29,8 +30,8 @@ fn short_refusal(knots: &[f64], tags: usize, slots: usize) -> u8
     ensures { result ≡ verdict_number (first (many_tests knots.now tags slots 1 0)) }
 {
     match curve_verdict(knots, tags, slots) {
-        Verdict::Refused(refusal) => refusal.number(),
-        Verdict::Accepted => Refusal::BufferTooShort.number(),
+        Err(refusal) => refusal.number(),
+        Ok(()) => Refusal::BufferTooShort.number(),
     }
 }
 
@@ -83,5 +84,5 @@ pub fn havgrunel_primitive(
 pub fn havgrunel_derivative(x: f64) -> u8
     ensures { result ≡ number Refusal.DerivativeAsked }
 {
-    query::answer::derivative(x).in_numbers().refusal
+    AnswerInNumbers::from(derivative(x)).refusal
 }

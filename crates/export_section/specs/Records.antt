@@ -1,5 +1,6 @@
 -- 01, Buffers and section records: one section's record, and what it answers by itself. 02, K7: with the marks of its two numbers.
-use Rattle.std.specs.Prelude.{ℕ, ◌-◌, ◌*◌, Bool, cond, ◌||◌, List, [], ◌∷◌, ltb, leb, Float, length, get_or, set}
+use Rattle.section.specs.declared.section.Section.{Section}
+use Rattle.std.specs.Prelude.{ℕ, ◌-◌, ◌*◌, Bool, cond, ◌||◌, List, [], ◌∷◌, ltb, leb, Float, length, get_or, set, Err, None, Ok, Option, Some}
 use Rattle.std.specs.Float.{nan}
 use Rattle.numbers.specs.OneOutcome.{pair}
 use Rattle.numbers.specs.Overlay.{overlay}
@@ -7,13 +8,9 @@ use Rattle.numbers.specs.Words.{finite}
 use Rattle.section.specs.Section as section
 use Rattle.record.specs.Reader.{record_part}
 use Rattle.refusal.specs.Refusal as refusal
-use Rattle.refusal.specs.Refusal.{Test, ◌⇒◌, first}
+use Rattle.refusal.specs.Refusal.{Test, ◌⇒◌, first, Verdict}
 use Rattle.numbers.specs.Sizes.{slot_count}
-use Rattle.record.specs.declared.reading.Found.{Found}
-use Rattle.record.specs.declared.reading.Found.TheVariants as found
 use Rattle.refusal.specs.declared.Refusal.TheVariants.{TooFewPoints, TooManyPoints, BufferTooShort, RecordNotLegal}
-use Rattle.refusal.specs.declared.Verdict.{Verdict}
-use Rattle.refusal.specs.declared.Verdict.TheVariants as verdict
 
 -- the first n of a list of numbers, written from the start
 abbrev pub copied : ℕ → List Float → List Float → List Float
@@ -34,8 +31,8 @@ module _ (points : ℕ) (slots : List Float) (number : ℕ) (into : List Float) 
 
   -- what is said, and what the slice holds: the record's slots from the start, or what it held
   abbrev pub copied_by : Verdict → ℕ × List Float
-  copied_by verdict.Accepted = pair 0 (copied slot_count (record_part verdict.Accepted slots number) into)
-  copied_by (verdict.Refused r) = pair (refusal.number r) into
+  copied_by (Ok tt) = pair 0 (copied slot_count (record_part (Ok tt) slots number) into)
+  copied_by (Err r) = pair (refusal.number r) into
 
 -- a refusal's number, or 0, and the lent answers and marks as they are left
 pub record SectionAnswered : Type 0 where
@@ -47,14 +44,14 @@ abbrev pub answered : ℕ → List Float → List Bool → SectionAnswered
 answered refusal answer marks = record { refusal = refusal; answer = answer; finite = marks }
 
 -- a record's value and primitive at x, and the node that it ends on, by their bits; and whether the value is finite, and whether the primitive is
-abbrev pub section_left : Found → Float → List Float → List Bool → SectionAnswered
-section_left (found.Section s) x old marks =
+abbrev pub section_left : Option Section → Float → List Float → List Bool → SectionAnswered
+section_left (Some s) x old marks =
     answered 0
     (set (set (set old 0 (section.value s x)) 1 (section.primitive s x)) 2 (section.f_next s))
     (set (set marks 0 (finite (section.value s x))) 1 (finite (section.primitive s x)))
-section_left found.Illegal x old marks = answered (refusal.number RecordNotLegal) old marks
+section_left None x old marks = answered (refusal.number RecordNotLegal) old marks
 
 -- 11 for a short answer or for too few marks, then 15
-abbrev pub section_into : Found → Float → List Float → List Bool → SectionAnswered
+abbrev pub section_into : Option Section → Float → List Float → List Bool → SectionAnswered
 section_into f x old marks =
     cond (ltb (length old) 3 || ltb (length marks) 2) (answered (refusal.number BufferTooShort) old marks) (section_left f x old marks)

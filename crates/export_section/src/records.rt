@@ -1,5 +1,5 @@
 // One section's record: its slots copied out, and what it answers by itself.
-ghost use Rattle.std.specs.Prelude.{◌≡◌, ◌≤◌, length};
+ghost use Rattle.std.specs.Prelude.{Err, ◌≡◌, ◌≤◌, length};
 ghost use Rattle.numbers.specs.OneOutcome.{pair};
 ghost use Rattle.record.specs.Reading.{read_section};
 ghost use Rattle.record.specs.Reader.{record_verdict};
@@ -8,8 +8,8 @@ ghost use Rattle.export_section.specs.Records.{copied, copy_verdict, copied_by, 
 
 use numbers::SLOTS;
 use record::reader::{record_slots, record_verdict};
-use record::reading::{Found, read_section};
-use refusal::{Refusal, Verdict};
+use record::reading::read_section;
+use refusal::Refusal;
 
 // So many numbers, from the start of one slice to the start of another.
 pub(crate) fn copy(count: usize, from: &[f64], to: &mut [f64])
@@ -23,11 +23,11 @@ pub(crate) fn copy(count: usize, from: &[f64], to: &mut [f64])
 
 // The refusal of a copy that has no room: one of the curve's own, or that of a short slice. The first section's number is never past the last.
 fn short_refusal(points: usize, slots: &[f64]) -> u8
-    ensures { result ≡ verdict_number (and_then (record_verdict points (length slots.now) 0) (Verdict.Refused Refusal.BufferTooShort)) }
+    ensures { result ≡ verdict_number (and_then (record_verdict points (length slots.now) 0) (Err Refusal.BufferTooShort)) }
 {
     match record_verdict(points, slots, 0) {
-        Verdict::Refused(refusal) => refusal.number(),
-        Verdict::Accepted => Refusal::BufferTooShort.number(),
+        Err(refusal) => refusal.number(),
+        Ok(()) => Refusal::BufferTooShort.number(),
     }
 }
 
@@ -39,8 +39,8 @@ pub fn havgrunel_record(points: usize, slots: &[f64], number: usize, into: &mut 
         return short_refusal(points, slots);
     }
     match record_verdict(points, slots, number) {
-        Verdict::Refused(refusal) => refusal.number(),
-        Verdict::Accepted => {
+        Err(refusal) => refusal.number(),
+        Ok(()) => {
             copy(SLOTS, record_slots(points, slots, number), into);
             0
         }
@@ -65,8 +65,8 @@ pub fn havgrunel_section(
         return Refusal::BufferTooShort.number();
     }
     match read_section(tag, slots) {
-        Found::Illegal => Refusal::RecordNotLegal.number(),
-        Found::Section(section) => {
+        None => Refusal::RecordNotLegal.number(),
+        Some(section) => {
             let value = section.value(x);
             let primitive = section.primitive(x);
             answer[0] = value.number;

@@ -1,4 +1,5 @@
 -- What is said of strips across the boundary.
+use Rattle.std.specs.Prelude.{Err, Ok}
 use Prim.Native.Nat.{ℕ}
 use mathlib.Core.Bool.{Bool, true, false, cond}
 use mathlib.Core.List.{List}
@@ -6,17 +7,13 @@ use mathlib.Core.Path.{◌≡◌, sym, ap, ◌∙◌}
 use lib.Ieee.{Float}
 use lib.ListN.{set}
 use Rattle.numbers.specs.OneOutcome.{pair}
-use Rattle.refusal.specs.Refusal.{number}
+use Rattle.refusal.specs.Refusal.{number, Verdict}
 use Rattle.refusal.specs.declared.Refusal.{Refusal}
-use Rattle.refusal.specs.declared.Verdict.{Verdict}
-use Rattle.refusal.specs.declared.Verdict.TheVariants as verdict
 use Rattle.curve.specs.declared.curve.Curve.{Curve}
-use Rattle.query.specs.Many.{many_in_numbers}
-use Rattle.query.specs.Query.{number_in, verdict_in, answer_in_numbers}
+use Rattle.query.specs.Many.{many_in_numbers, ManyAnswer}
+use Rattle.query.specs.Query.{number_in, verdict_in, answer_in_numbers, QueryAnswer}
 use Rattle.query.specs.declared.answer.AnswerInNumbers.{AnswerInNumbers}
-use Rattle.query.specs.declared.answer.ManyAnswer.{ManyAnswer}
 use Rattle.query.specs.declared.answer.ManyInNumbers.{ManyInNumbers}
-use Rattle.query.specs.declared.answer.QueryAnswer.{QueryAnswer}
 use Rattle.export_query.specs.Asking.{left_by}
 use Rattle.export_many.specs.Many.{numbered}
 
@@ -31,10 +28,10 @@ strips_told asked j k o m count n e p f g =
 
 -- an answer by what refuses it: a refusal leaves the slice, and a number is written
 module _ (k : QueryAnswer) (v : Verdict) (old : List Float) (e : v ≡ verdict_in k) where
-  pub not_written : (r : Refusal) (n : ℕ) → v ≡ verdict.Refused r → n ≡ number r → pair n old ≡ left_by k old
+  pub not_written : (r : Refusal) (n : ℕ) → v ≡ Err r → n ≡ number r → pair n old ≡ left_by k old
   not_written r n f g = rw (sym e ∙ f, g)
 
-  pub written : (price : Float) → v ≡ verdict.Accepted → price ≡ number_in k → pair 0 (set old 0 price) ≡ left_by k old
+  pub written : (price : Float) → v ≡ Ok tt → price ≡ number_in k → pair 0 (set old 0 price) ≡ left_by k old
   written price f g = rw (sym e ∙ f, g)
 
 -- one strip: with no room for its answer only a refusal comes back, and with room the answer is left

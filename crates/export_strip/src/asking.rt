@@ -7,19 +7,21 @@ ghost use Rattle.export_query.specs.Asking.{left_by};
 ghost use Rattle.export_many.specs.Many.{numbered};
 ghost use Rattle.export_strip.specs.Asking.{strip_into};
 
-use query::answer::{ManyInNumbers, QueryAnswer, curve_with};
+use numbers::Marked;
+use query::answer::{AnswerInNumbers, ManyInNumbers, curve_with, finite};
 use query::strip::strip;
-use refusal::Verdict;
+use refusal::Refusal;
 
-// An answer in numbers, written into a slice that has room for it. What is refused, and so a number that is not finite, is not written.
-pub(crate) fn write_answer(asked: QueryAnswer, answer: &mut [f64]) -> u8
+// An answer in numbers, written into a slice that has room for it. What is refused, and so a number that is not finite, is not written. It is the one of
+// `export_query` again: one for both would be public, and no public function may ask for room.
+pub(crate) fn write_answer(asked: Result<Marked, Refusal>, answer: &mut [f64]) -> u8
     requires { 1 ≤ length answer.old }
     ensures { pair result answer.new ≡ left_by asked answer.old }
 {
-    match asked.verdict() {
-        Verdict::Refused(refusal) => refusal.number(),
-        Verdict::Accepted => {
-            answer[0] = asked.number();
+    match finite(asked) {
+        Err(refusal) => refusal.number(),
+        Ok(number) => {
+            answer[0] = number;
             0
         }
     }
@@ -43,7 +45,7 @@ pub fn havgrunel_strip(
     let curve = curve_with(tail_value, tail_total, tail_from, extrapolate);
     if answer.len() < 1 {
         let none: [u16; 0] = [];
-        return strip(knots, curve, &none, slots, a, b).in_numbers().refusal;
+        return AnswerInNumbers::from(strip(knots, curve, &none, slots, a, b)).refusal;
     }
     write_answer(strip(knots, curve, tags, slots, a, b), answer)
 }
@@ -65,17 +67,8 @@ pub fn havgrunel_strips(
     ensures { pair result answers.new ≡ numbered (pairs_outcome knots.now (curve_with tail_value tail_total tail_from extrapolate) tags.now slots.now starts.now ends.now answers.old) (length starts.now) }
 {
     let curve = curve_with(tail_value, tail_total, tail_from, extrapolate);
-    query::strips::strips(knots, curve, tags, slots, starts, ends, answers).in_numbers(starts.len())
-}
-
-// How many strips there are from edge to edge.
-fn strips_of(edges: usize) -> usize
-    ensures { result ≡ edges - 1 }
-{
-    if edges == 0 {
-        return 0;
-    }
-    edges - 1
+    let answered = query::strips::strips(knots, curve, tags, slots, starts, ends, answers);
+    ManyInNumbers::of(answered, starts.len())
 }
 
 // The average price from each of `edges` to the next, in the same way: one number less than there are edges.
@@ -94,5 +87,5 @@ pub fn havgrunel_strip_run(
 {
     let curve = curve_with(tail_value, tail_total, tail_from, extrapolate);
     let answered = query::strips::run(knots, curve, tags, slots, edges, answers);
-    answered.in_numbers(strips_of(edges.len()))
+    ManyInNumbers::of(answered, edges.len().saturating_sub(1))
 }

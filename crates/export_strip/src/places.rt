@@ -6,6 +6,7 @@ ghost use Rattle.export_strip.specs.Places.{between_into, entry_into};
 use crate::asking::write_answer;
 use column::between::strip_between;
 use column::entry::entry;
+use query::answer::AnswerInNumbers;
 
 // The average price from knot `i` to knot `j`, both counted from 0, into the first entry of `answer`: by two entries of the curve's column.
 pub fn havgrunel_strip_between(
@@ -19,7 +20,7 @@ pub fn havgrunel_strip_between(
 {
     if answer.len() < 1 {
         let none: [f64; 0] = [];
-        return strip_between(knots, &none, i, j).in_numbers().refusal;
+        return AnswerInNumbers::from(strip_between(knots, &none, i, j)).refusal;
     }
     write_answer(strip_between(knots, column, i, j), answer)
 }
@@ -30,7 +31,7 @@ pub fn havgrunel_column_entry(column: &[f64], i: usize, answer: &mut [f64]) -> u
 {
     if answer.len() == 0 {
         let none: [f64; 0] = [];
-        return entry(&none, i).in_numbers().refusal;
+        return AnswerInNumbers::from(entry(&none, i)).refusal;
     }
     write_answer(entry(column, i), answer)
 }

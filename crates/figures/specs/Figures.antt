@@ -1,7 +1,7 @@
 -- 01, Figures to agree with: p1 to p10 in one table, and 02, K3: careful p6, and K7: p8's NaN is marked, and a query of it refused. A row has the figure's number, what the definitions give that the contracts cite, and what the document says;
 -- floats by their bits.
 use Prim.Native.Nat as nat
-use Rattle.std.specs.Prelude.{ℕ, suc, ◌+◌, ◌*◌, Bool, true, false, cond, ◌&&◌, List, [], ◌∷◌, eqb, Float, length, get_or, replicate}
+use Rattle.std.specs.Prelude.{ℕ, suc, ◌+◌, ◌*◌, Bool, true, false, cond, ◌&&◌, List, [], ◌∷◌, eqb, Float, length, get_or, replicate, Err, None, Ok, Option, Some}
 use Rattle.std.specs.Float.{nan, binary64}
 use Rattle.std.specs.Float.Ieee.{of_bits, to_bits, neg}
 use Rattle.numbers.specs.Marks.{mark}
@@ -17,22 +17,17 @@ use Rattle.record.specs.Slots.{slots_of}
 use Rattle.record.specs.Tag.{tag_of}
 use Rattle.table.specs.Buffers.{Buffers, Outcome, buffers}
 use Rattle.table.specs.Method as method
-use Rattle.table.specs.declared.ends.End.TheVariants as end
 use Rattle.table.specs.declared.ends.Seam.{Seam}
-use Rattle.table.specs.declared.ends.Seam.TheVariants as seam
 use Rattle.table.specs.declared.method.ConvexMonotone.{ConvexMonotone}
 use Rattle.table.specs.declared.method.Split.{Split}
 use Rattle.table.specs.declared.method.Split.TheVariants as split
 use Rattle.choice.specs.Choice.{section_of}
 use Rattle.curve.specs.Build.{build_verdict, build_outcome}
-use Rattle.curve.specs.Curve.{curve_in_numbers, with_extrapolation}
+use Rattle.curve.specs.Curve.{curve_in_numbers, with_extrapolation, Built}
 use Rattle.query.specs.Query.{place_of, covered_at, ask, answer_in_numbers}
-use Rattle.curve.specs.declared.curve.Built.{Built}
-use Rattle.curve.specs.declared.curve.Built.TheVariants as built
 use Rattle.curve.specs.declared.curve.Curve.{Curve}
 use Rattle.curve.specs.declared.curve.CurveInNumbers.{CurveInNumbers}
 use Rattle.query.specs.declared.answer.AnswerInNumbers.{AnswerInNumbers}
-use Rattle.query.specs.declared.answer.Covered.TheVariants as covered
 use Rattle.sheets.specs.Sheet.{sheet_outcome}
 
 pub record Row : Type 0 where
@@ -63,8 +58,8 @@ nine = of_bits binary64 0x4022_0000_0000_0000
 
 -- the curve that was built; every table here is accepted
 abbrev curve_in : Built → Curve
-curve_in (built.Curve c) = c
-curve_in (built.Refused r) = record { sections = 0; held = false; extrapolates = false; tail = record { value = nan; total = nan; from = nan } }
+curve_in (Ok c) = c
+curve_in (Err r) = record { sections = 0; held = false; extrapolates = false; tail = record { value = nan; total = nan; from = nan } }
 
 -- a table built into buffers of zeros, with no held period
 module _ (x y : List Float) (m : ConvexMonotone) where
@@ -72,7 +67,7 @@ module _ (x y : List Float) (m : ConvexMonotone) where
   lent = buffers (replicate (length x) zero) (replicate (length x) 0) (replicate (2 * slot_count) zero)
 
   abbrev made : Outcome Built
-  made = build_outcome x y m false seam.Absent lent
+  made = build_outcome x y m false None lent
 
   abbrev nodes_of : List Float
   nodes_of = made.buffers.nodes
@@ -92,7 +87,7 @@ module _ (x y : List Float) (m : ConvexMonotone) where
   abbrev value_at : Bool → Float → AnswerInNumbers
   value_at allow q = answer_in_numbers (ask (λ s. section.value s q) (covered_at x (curve allow) tags_of slots_in q))
 
-  abbrev number_with : Seam → ℕ
+  abbrev number_with : Option Seam → ℕ
   number_with s = verdict_number (build_verdict x y m s lent)
 
 -- p1
@@ -115,8 +110,8 @@ m2 = method.new zero one false
 -- p4: two sheets, one after the other, into buffers of zeros
 abbrev in_two_sheets : Buffers
 in_two_sheets =
-    let first = sheet_outcome (zero ∷ one ∷ []) (zero ∷ one ∷ []) m2 end.Free (end.Given two) zero 0 (lent x2 y2 m2) in
-    (sheet_outcome (one ∷ two ∷ []) (one ∷ three ∷ []) m2 (end.Given two) end.Free one 1 first.buffers).buffers
+    let first = sheet_outcome (zero ∷ one ∷ []) (zero ∷ one ∷ []) m2 None (Some two) zero 0 (lent x2 y2 m2) in
+    (sheet_outcome (one ∷ two ∷ []) (one ∷ three ∷ []) m2 (Some two) None one 1 first.buffers).buffers
 
 abbrev sheet_nodes : List Float
 sheet_nodes = in_two_sheets.nodes
@@ -150,7 +145,7 @@ chosen m before after average =
 
 -- what a query is answered that such a section covers
 abbrev covers : Section → Float → AnswerInNumbers
-covers s q = answer_in_numbers (ask (λ z. section.value z q) (covered.Section s))
+covers s q = answer_in_numbers (ask (λ z. section.value z q) (Ok s))
 
 abbrev slot_of : Section → ℕ → ℕ
 slot_of s k = bits (get_or (slots_of s) k nan)
@@ -199,8 +194,8 @@ table =
     ∷ row 9 (bits (root (of_bits binary64 0x4000_0000_0000_0000))) 0x3ff6_a09e_667f_3bcd
     ∷ row 9 (bits (root (of_bits binary64 0x0000_0000_0000_0001))) 0x1e60_0000_0000_0000
     ∷ row 9 (bits (root (of_bits binary64 0x8000_0000_0000_0000))) 0x8000_0000_0000_0000
-    ∷ row 10 (number_with x2 y2 m2 (seam.At 1 two)) 0
-    ∷ row 10 (number_with x2 y2 m2 (seam.At 2 two)) 8
+    ∷ row 10 (number_with x2 y2 m2 (Some (record { count = 1; node = two }))) 0
+    ∷ row 10 (number_with x2 y2 m2 (Some (record { count = 2; node = two }))) 8
     ∷ []
 
 abbrev pub agree : List Row → Bool

@@ -1,4 +1,6 @@
 -- What a growing curve carries over, case by case.
+use Rattle.curve.specs.Curve.{Built}
+use Rattle.std.specs.Prelude.{Err, None, Ok, Option, Some}
 use Prim.Native.Nat.{ℕ, ◌+◌, ◌-◌, ◌*◌, ◌≤◌, ◌<◌}
 use native.Mathlib.Omega.{arith}
 use mathlib.Core.Bool.{true, false, ◌||◌}
@@ -14,20 +16,12 @@ use Rattle.numbers.proofs.Ways.{or_none, lt_or_le}
 use Rattle.section.specs.Section.{f_next}
 use Rattle.section.specs.declared.section.Section.{Section}
 use Rattle.record.specs.Reading.{read_section}
-use Rattle.record.specs.declared.reading.Found.TheVariants as found
 use Rattle.refusal.specs.declared.Refusal.{Refusal}
 use Rattle.refusal.specs.declared.Refusal.TheVariants.{NoPreviousCurve, RecordNotLegal}
 use Rattle.table.specs.Buffers.{Buffers, Outcome}
 use Rattle.table.specs.declared.ends.Seam.{Seam}
-use Rattle.table.specs.declared.ends.Seam.TheVariants as seam
-use Rattle.growth.specs.Growth.{first_window, seam_after, beyond, seam_of, carried_at, grown}
+use Rattle.growth.specs.Growth.{first_window, seam_after, beyond, seam_of, carried_at, grown, Previous, Carried}
 use Rattle.curve.specs.declared.curve.Curve.{Curve}
-use Rattle.curve.specs.declared.curve.Built.{Built}
-use Rattle.curve.specs.declared.curve.Built.TheVariants as built
-use Rattle.growth.specs.declared.growth.Previous.{Previous}
-use Rattle.growth.specs.declared.growth.Previous.TheVariants as previous
-use Rattle.growth.specs.declared.growth.Carried.{Carried}
-use Rattle.growth.specs.declared.growth.Carried.TheVariants as carried
 
 -- the window, computed without the sum
 pub no_window : (n l : ℕ) → n ≡ 0 → false ≡ first_window n l
@@ -57,26 +51,26 @@ holds_all n tags slots h =
 
 -- the record of the last section that is kept
 module _ (count : ℕ) (tags : List ℕ) (slots : List Float) where
-  pub after_none : count ≡ 0 → carried.Seam seam.Absent ≡ seam_after count tags slots
+  pub after_none : count ≡ 0 → Ok None ≡ seam_after count tags slots
   unfolding seam_after
   after_none h = simp (eq-eqb count 0 h)
 
-  pub after_section : (s : Section) (v : Float) → (count ≡ 0 → ⊥) → read_section (get_or tags (count - 1) 0) (take slot_count (drop (slot_count * (count - 1)) slots)) ≡ found.Section s →
-      v ≡ f_next s → carried.Seam (seam.At count v) ≡ seam_after count tags slots
+  pub after_section : (s : Section) (v : Float) → (count ≡ 0 → ⊥) → read_section (get_or tags (count - 1) 0) (take slot_count (drop (slot_count * (count - 1)) slots)) ≡ Some s →
+      v ≡ f_next s → Ok (Some (record { count = count; node = v })) ≡ seam_after count tags slots
   unfolding seam_after
   after_section s v p e f = simp (ne_eqb count 0 p) (rw (e, f))
 
-  pub after_illegal : (count ≡ 0 → ⊥) → read_section (get_or tags (count - 1) 0) (take slot_count (drop (slot_count * (count - 1)) slots)) ≡ found.Illegal →
-      carried.Refused RecordNotLegal ≡ seam_after count tags slots
+  pub after_illegal : (count ≡ 0 → ⊥) → read_section (get_or tags (count - 1) 0) (take slot_count (drop (slot_count * (count - 1)) slots)) ≡ None →
+      Err RecordNotLegal ≡ seam_after count tags slots
   unfolding seam_after
   after_illegal p e = simp (ne_eqb count 0 p) (rw e)
 
 module _ (curve : Curve) (tags : List ℕ) (slots : List Float) where
-  pub of_none : curve.sections ≡ 0 → carried.Refused NoPreviousCurve ≡ seam_of curve tags slots
+  pub of_none : curve.sections ≡ 0 → Err NoPreviousCurve ≡ seam_of curve tags slots
   unfolding seam_of
   of_none h = simp (eq-eqb curve.sections 0 h)
 
-  pub of_beyond : (curve.sections ≡ 0 → ⊥) → beyond curve.sections (length tags) (length slots) ≡ true → carried.Refused RecordNotLegal ≡ seam_of curve tags slots
+  pub of_beyond : (curve.sections ≡ 0 → ⊥) → beyond curve.sections (length tags) (length slots) ≡ true → Err RecordNotLegal ≡ seam_of curve tags slots
   unfolding seam_of
   of_beyond p h = rw (ne_eqb curve.sections 0 p, h)
 
@@ -91,18 +85,18 @@ module _ (curve : Curve) (tags : List ℕ) (slots : List Float) where
   of_free k p h g e = rw (ne_eqb curve.sections 0 p, h, g) e
 
 module _ (n l : ℕ) (p : Previous) (tags : List ℕ) (slots : List Float) where
-  pub in_window : first_window n l ≡ true → carried.Seam seam.Absent ≡ carried_at n l p tags slots
+  pub in_window : first_window n l ≡ true → Ok None ≡ carried_at n l p tags slots
   in_window h = rw h
 
-  pub past_none : first_window n l ≡ false → p ≡ previous.Absent → carried.Refused NoPreviousCurve ≡ carried_at n l p tags slots
+  pub past_none : first_window n l ≡ false → p ≡ None → Err NoPreviousCurve ≡ carried_at n l p tags slots
   past_none h e = rw (h, e)
 
-  pub past_curve : (c : Curve) (k : Carried) → first_window n l ≡ false → p ≡ previous.Curve c → k ≡ seam_of c tags slots → k ≡ carried_at n l p tags slots
+  pub past_curve : (c : Curve) (k : Carried) → first_window n l ≡ false → p ≡ Some c → k ≡ seam_of c tags slots → k ≡ carried_at n l p tags slots
   past_curve c k h e f = rw (h, e) f
 
 -- an outcome, by what is carried
-pub not_grown : (k : Carried) (r : Refusal) (old : Buffers) (f : Seam → Outcome Built) → k ≡ carried.Refused r → record { answer = built.Refused r; buffers = old } ≡ grown k old f
+pub not_grown : (k : Carried) (r : Refusal) (old : Buffers) (f : Option Seam → Outcome Built) → k ≡ Err r → record { answer = Err r; buffers = old } ≡ grown k old f
 not_grown k r old f e = rw e
 
-pub is_grown : (k : Carried) (s : Seam) (old : Buffers) (f : Seam → Outcome Built) (o : Outcome Built) → k ≡ carried.Seam s → o ≡ f s → o ≡ grown k old f
+pub is_grown : (k : Carried) (s : Option Seam) (old : Buffers) (f : Option Seam → Outcome Built) (o : Outcome Built) → k ≡ Ok s → o ≡ f s → o ≡ grown k old f
 is_grown k s old f o e g = rw e g

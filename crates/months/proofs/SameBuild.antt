@@ -1,4 +1,5 @@
 -- `build_months` answers and leaves what `build` does of the knots of its months. Stated of the function, over its contract.
+use Rattle.std.specs.Prelude.{Err, Ok, Option}
 use Prim.Native.Nat.{◌≤◌}
 use mathlib.Core.Bool.{Bool, true, false}
 use mathlib.Core.List.{List, [], ◌∷◌}
@@ -8,17 +9,14 @@ use lib.Ieee.{Float}
 use lib.IntN.{ℤ}
 use lib.ListN.{length}
 use Rattle.numbers.specs.OneOutcome.{Follows, pair}
-use Rattle.refusal.specs.Refusal.{Test, first, and_then}
+use Rattle.refusal.specs.Refusal.{Test, first, and_then, Verdict}
 use Rattle.refusal.specs.declared.Refusal.{Refusal}
 use Rattle.refusal.specs.declared.Refusal.TheVariants.{MonthsNotPeriods, BufferTooShort}
-use Rattle.refusal.specs.declared.Verdict.{Verdict}
-use Rattle.refusal.specs.declared.Verdict.TheVariants as verdict
 use Rattle.refusal.proofs.First.{passed, both_accept, first_append}
 use Rattle.table.specs.Buffers.{Buffers, buffers, judged}
 use Rattle.table.specs.declared.method.ConvexMonotone.{ConvexMonotone}
 use Rattle.table.specs.declared.ends.Seam.{Seam}
 use Rattle.curve.specs.Build.{build_tests, build_verdict, build_outcome, curve_of}
-use Rattle.curve.specs.declared.curve.Built.TheVariants as built
 use Rattle.months.specs.Building.{Monthly, monthly, periods_tests, months_tests, months_verdict, monthly_built, monthly_by, monthly_outcome}
 use Rattle.months.specs.InOrder.{InOrder, of_knots}
 use Rattle.months.specs.Knots.{month_knots, room_test, knots_made}
@@ -27,17 +25,16 @@ use Rattle.months.specs.SameBuild.{SameBuild}
 use Rattle.months.specs.Steps.{InCalendar}
 use Rattle.months.specs.declared.periods.Size.{Size}
 use Rattle.months.specs.declared.periods.Periods.{Periods}
-use Rattle.months.specs.declared.knots.MonthKnots.TheVariants as answered
 use Rattle.months.proofs.InOrder.{good_knots, made_in_order, is_other, not_for_knots, verdict_in}
 use Rattle.months.proofs.Shaped.{not_both}
 use Rattle.months.proofs.Whole.{some_months, in_calendar}
 use Rattle.months.proofs.building.build_months.Reads as build-months
 
-and_accepted : (v : Verdict) → and_then v verdict.Accepted ≡ v
-and_accepted verdict.Accepted = refl
-and_accepted (verdict.Refused r) = refl
+and_accepted : (v : Verdict) → and_then v (Ok tt) ≡ v
+and_accepted (Ok tt) = refl
+and_accepted (Err r) = refl
 
-module _ (from to : ℤ) (size : Size) (y : List Float) (method : ConvexMonotone) (hold : Bool) (seam : Seam) (knots : List Float) (b : Buffers) where
+module _ (from to : ℤ) (size : Size) (y : List Float) (method : ConvexMonotone) (hold : Bool) (seam : Option Seam) (knots : List Float) (b : Buffers) where
   abbrev p : Periods
   p = periods_asked from to size
 
@@ -62,10 +59,10 @@ module _ (from to : ℤ) (size : Size) (y : List Float) (method : ConvexMonotone
   told = by v
     where
       by : (w : Verdict) → w ≡ verdict_in (monthly_by w knots b (monthly_built p y method hold seam knots b)).answer
-      by verdict.Accepted = refl
-      by (verdict.Refused r) = refl
+      by (Ok tt) = refl
+      by (Err r) = refl
 
-  is_nineteen : (months_test from to size).holds ≡ true → left.answer ≡ built.Refused MonthsNotPeriods
+  is_nineteen : (months_test from to size).holds ≡ true → left.answer ≡ Err MonthsNotPeriods
   is_nineteen h = rw h
 
   -- of whole periods
@@ -87,20 +84,20 @@ module _ (from to : ℤ) (size : Size) (y : List Float) (method : ConvexMonotone
     is_same k =
         ap (λ (w : Verdict). record { answer = (monthly_by w knots b new).answer; buffers = (monthly_by w knots b new).buffers }) (with_room k) ∙ by (build_verdict (month_knots p) y method seam b)
       where
-        by : (w : Verdict) → record { answer = (monthly_by w knots b new).answer; buffers = (monthly_by w knots b new).buffers } ≡ judged w built.Refused b (record { answer = new.answer; buffers = new.buffers })
-        by verdict.Accepted = refl
-        by (verdict.Refused r) = refl
+        by : (w : Verdict) → record { answer = (monthly_by w knots b new).answer; buffers = (monthly_by w knots b new).buffers } ≡ judged w Err b (record { answer = new.answer; buffers = new.buffers })
+        by (Ok tt) = refl
+        by (Err r) = refl
 
-    other_refusal : (e : Refusal) → v ≡ verdict.Refused e → of_knots e ≡ false
+    other_refusal : (e : Refusal) → v ≡ Err e → of_knots e ≡ false
     other_refusal e f = by (first table) refl (room_test p (length knots)).holds refl (sym (first_append table (room_test p (length knots) ∷ [])) ∙ sym of_tests ∙ f)
       where
-        by : (w : Verdict) → first table ≡ w → (t : Bool) → (room_test p (length knots)).holds ≡ t → and_then (first table) (first (room_test p (length knots) ∷ [])) ≡ verdict.Refused e → of_knots e ≡ false
-        by (verdict.Refused r) h t k g = not_for_knots (month_knots p) y method seam (length b.nodes) (length b.tags) (length b.slots) (good_knots p within) e (h ∙ rw h at g)
-        by verdict.Accepted h true k g = is_other BufferTooShort e refl (rw (h, k) at g)
-        by verdict.Accepted h false k g = not_both (verdict.Refused e) e (sym (rw (h, k) at g)) refl
+        by : (w : Verdict) → first table ≡ w → (t : Bool) → (room_test p (length knots)).holds ≡ t → and_then (first table) (first (room_test p (length knots) ∷ [])) ≡ Err e → of_knots e ≡ false
+        by (Err r) h t k g = not_for_knots (month_knots p) y method seam (length b.nodes) (length b.tags) (length b.slots) (good_knots p within) e (h ∙ rw h at g)
+        by (Ok tt) h true k g = is_other BufferTooShort e refl (rw (h, k) at g)
+        by (Ok tt) h false k g = not_both (Err e) e (sym (rw (h, k) at g)) refl
 
   -- of a curve: nothing was refused
-  module _ (accepted : v ≡ verdict.Accepted) where
+  module _ (accepted : v ≡ Ok tt) where
     holds_not : (months_test from to size).holds ≡ false
     holds_not = (passed (months_tests from to size y method seam (length knots) (length b.nodes) (length b.tags) (length b.slots)) accepted).0
 
@@ -111,7 +108,7 @@ module _ (from to : ℤ) (size : Size) (y : List Float) (method : ConvexMonotone
 
     is_ordered : InOrder from to size knots left.knots p.knots
     is_ordered =
-        let e : pair (answered.Made p.knots) new.knots ≡ knots_made from to size knots = rw (holds_not, has_room) in
+        let e : pair (Ok p.knots) new.knots ≡ knots_made from to size knots = rw (holds_not, has_room) in
         subst (λ (w : Verdict). InOrder from to size knots (monthly_by w knots b new).knots p.knots) (sym accepted) (made_in_order from to size knots new.knots p.knots e)
 
   pub same_build : SameBuild from to size y method hold seam knots b left
@@ -122,7 +119,7 @@ module _ (from to : ℤ) (size : Size) (y : List Float) (method : ConvexMonotone
     never = λ e f. by (months_test from to size).holds refl e (told ∙ ap verdict_in f);
   }
     where
-      by : (t : Bool) → (months_test from to size).holds ≡ t → (e : Refusal) → v ≡ verdict.Refused e → of_knots e ≡ false
+      by : (t : Bool) → (months_test from to size).holds ≡ t → (e : Refusal) → v ≡ Err e → of_knots e ≡ false
       by true h e f = is_other MonthsNotPeriods e refl (rw h at f)
       by false h e f = other_refusal h e f
 

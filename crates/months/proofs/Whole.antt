@@ -1,4 +1,5 @@
 -- Whole periods lie in the calendar, and their last knot is the month after the last.
+use Rattle.std.specs.Prelude.{Err, Ok}
 use Prim.Native.Nat.{ℕ, zero, suc, ◌+◌, ◌-◌, ◌*◌, ◌/◌, ◌%◌, ◌≤◌, ◌<◌}
 use native.Mathlib.Omega.{arith}
 use native.Mathlib.Nat.{div-add-mod', zero-mul}
@@ -13,13 +14,11 @@ use borrow.Author.Tests.{ltb-true, leb-true, eqb-true}
 use Rattle.numbers.proofs.Every.{and_split}
 use Rattle.numbers.proofs.Ways.{never}
 use Rattle.months.specs.Calendar.{divides}
-use Rattle.months.specs.Periods.{months_in, place_of, are_periods, periods_from, periods_asked, periods_of}
+use Rattle.months.specs.Periods.{months_in, place_of, are_periods, periods_from, periods_asked, periods_of, Ordered}
 use Rattle.months.specs.Steps.{InCalendar}
 use Rattle.refusal.specs.declared.Refusal.{Refusal}
 use Rattle.refusal.specs.declared.Refusal.TheVariants.{MonthsNotPeriods}
 use Rattle.months.specs.declared.periods.Periods.{Periods}
-use Rattle.months.specs.declared.periods.Ordered.{Ordered}
-use Rattle.months.specs.declared.periods.Ordered.TheVariants as ordered
 use Rattle.months.specs.declared.periods.Size.{Size}
 use Rattle.months.specs.declared.periods.Size.TheVariants.{Month, Quarter, Year}
 
@@ -73,40 +72,40 @@ module _ (a b n : ℕ) (h : are_periods a b n ≡ true) where
 
 -- Of an answer that is known.
 abbrev is_whole : Ordered → Bool
-is_whole (ordered.Whole p) = true
-is_whole (ordered.Refused r) = false
+is_whole (Ok p) = true
+is_whole (Err r) = false
 
 abbrev whole_or : Periods → Ordered → Periods
-whole_or q (ordered.Whole p) = p
-whole_or q (ordered.Refused r) = q
+whole_or q (Ok p) = p
+whole_or q (Err r) = q
 
 abbrev refusal_or : Refusal → Ordered → Refusal
-refusal_or q (ordered.Whole p) = q
-refusal_or q (ordered.Refused r) = r
+refusal_or q (Ok p) = q
+refusal_or q (Err r) = r
 
 module _ (first last : ℤ) (size : Size) where
   abbrev periods : Bool
   periods = are_periods (place_of first) (place_of last) (months_in size)
 
   abbrev by : Bool → Ordered
-  by b = cond b (ordered.Whole (periods_asked first last size)) (ordered.Refused MonthsNotPeriods)
+  by b = cond b (Ok (periods_asked first last size)) (Err MonthsNotPeriods)
 
-  pub was_whole : (p : Periods) → periods_of first last size ≡ ordered.Whole p → (periods ≡ true) × (p ≡ periods_asked first last size)
+  pub was_whole : (p : Periods) → periods_of first last size ≡ Ok p → (periods ≡ true) × (p ≡ periods_asked first last size)
   was_whole p e = go periods refl e
     where
-      go : (b : Bool) → periods ≡ b → by b ≡ ordered.Whole p → (periods ≡ true) × (p ≡ periods_asked first last size)
+      go : (b : Bool) → periods ≡ b → by b ≡ Ok p → (periods ≡ true) × (p ≡ periods_asked first last size)
       go true h e = (h, sym (ap (whole_or p) e))
       go false h e = never (ap is_whole e) refl
 
-  pub was_refused : (r : Refusal) → periods_of first last size ≡ ordered.Refused r → (periods ≡ false) × (r ≡ MonthsNotPeriods)
+  pub was_refused : (r : Refusal) → periods_of first last size ≡ Err r → (periods ≡ false) × (r ≡ MonthsNotPeriods)
   was_refused r e = go periods refl e
     where
-      go : (b : Bool) → periods ≡ b → by b ≡ ordered.Refused r → (periods ≡ false) × (r ≡ MonthsNotPeriods)
+      go : (b : Bool) → periods ≡ b → by b ≡ Err r → (periods ≡ false) × (r ≡ MonthsNotPeriods)
       go true h e = never refl (ap is_whole e)
       go false h e = (h, sym (ap (refusal_or r) e))
 
   -- the periods of an accepted order lie in the calendar
-  pub within : (p : Periods) → periods_of first last size ≡ ordered.Whole p → InCalendar p
+  pub within : (p : Periods) → periods_of first last size ≡ Ok p → InCalendar p
   within p e =
       let (whole, is) = was_whole p e in
       subst InCalendar (sym is) (in_calendar (place_of first) (place_of last) (months_in size) whole (some_months size))

@@ -1,19 +1,20 @@
 -- 02, K2: the knots of periods, and what `month_knots` answers and leaves.
-use Rattle.std.specs.Prelude.{ℕ, ◌+◌, ◌*◌, List, [], ◌∷◌, ltb, Float, ℤ, pos, length}
+use Rattle.std.specs.Prelude.{ℕ, ◌+◌, ◌*◌, List, [], ◌∷◌, ltb, Float, ℤ, pos, length, Result, Ok, Err}
 use Rattle.std.specs.Float.{binary64}
 use Rattle.std.specs.Float.Ieee.{of_int}
 use Rattle.numbers.specs.OneOutcome.{pair}
 use Rattle.numbers.specs.Overlay.{overlay}
-use Rattle.refusal.specs.Refusal.{Test, ◌⇒◌, first, number}
+use Rattle.refusal.specs.Refusal.{Test, ◌⇒◌, first, number, Verdict}
+use Rattle.refusal.specs.declared.Refusal.{Refusal}
 use Rattle.refusal.specs.declared.Refusal.TheVariants.{BufferTooShort}
-use Rattle.refusal.specs.declared.Verdict.{Verdict}
-use Rattle.refusal.specs.declared.Verdict.TheVariants as verdict
 use Rattle.months.specs.Calendar.{start_at, listed}
 use Rattle.months.specs.Periods.{months_test, periods_asked}
 use Rattle.months.specs.declared.periods.Size.{Size}
 use Rattle.months.specs.declared.periods.Periods.{Periods}
-use Rattle.months.specs.declared.knots.MonthKnots.{MonthKnots}
-use Rattle.months.specs.declared.knots.MonthKnots.TheVariants as answered
+
+-- what is answered to an order of knots: how many there are
+abbrev pub MonthKnots : Type 0
+MonthKnots = Result ℕ Refusal
 
 -- a whole number of days as a float
 abbrev pub days : ℕ → Float
@@ -31,8 +32,8 @@ abbrev pub room_test : Periods → ℕ → Test
 room_test p room = ltb room p.knots ⇒ BufferTooShort
 
 abbrev pub knots_by : Verdict → Periods → List Float → MonthKnots × List Float
-knots_by verdict.Accepted p old = pair (answered.Made p.knots) (overlay 0 p.knots (knot_at p) old)
-knots_by (verdict.Refused r) p old = pair (answered.Refused r) old
+knots_by (Ok tt) p old = pair (Ok p.knots) (overlay 0 p.knots (knot_at p) old)
+knots_by (Err r) p old = pair (Err r) old
 
 -- refused in the order 19, 11; an accepted order's knots stand from the start of the slice, and entries beyond them stay
 abbrev pub knots_made : ℤ → ℤ → Size → List Float → MonthKnots × List Float
@@ -42,5 +43,5 @@ knots_made from to size old =
 
 -- in the documents' numbers: the refusal's, or 0, with how many knots there are
 abbrev pub knots_in_numbers : MonthKnots → ℕ × ℕ
-knots_in_numbers (answered.Made n) = pair 0 n
-knots_in_numbers (answered.Refused r) = pair (number r) 0
+knots_in_numbers (Ok n) = pair 0 n
+knots_in_numbers (Err r) = pair (number r) 0

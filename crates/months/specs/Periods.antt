@@ -1,14 +1,17 @@
 -- 02, K2: whole periods of the calendar, from a first to a last month, which belongs to them. Refusal 19.
-use Rattle.std.specs.Prelude.{ℕ, ◌+◌, ◌-◌, ◌/◌, Bool, not, ◌&&◌, cond, ltb, leb, ℤ, pos, negsuc}
+use Rattle.std.specs.Prelude.{ℕ, ◌+◌, ◌-◌, ◌/◌, Bool, not, ◌&&◌, cond, ltb, leb, ℤ, pos, negsuc, Result, Ok, Err}
 use Rattle.numbers.specs.OneOutcome.{pair}
 use Rattle.refusal.specs.Refusal.{Test, ◌⇒◌, number}
+use Rattle.refusal.specs.declared.Refusal.{Refusal}
 use Rattle.refusal.specs.declared.Refusal.TheVariants.{MonthsNotPeriods}
 use Rattle.months.specs.Calendar.{divides}
 use Rattle.months.specs.declared.periods.Size.{Size}
 use Rattle.months.specs.declared.periods.Size.TheVariants.{Month, Quarter, Year}
 use Rattle.months.specs.declared.periods.Periods.{Periods}
-use Rattle.months.specs.declared.periods.Ordered.{Ordered}
-use Rattle.months.specs.declared.periods.Ordered.TheVariants.{Whole, Refused}
+
+-- what an order by months asks for
+abbrev pub Ordered : Type 0
+Ordered = Result Periods Refusal
 
 abbrev pub months_in : Size → ℕ
 months_in Month = 1
@@ -37,9 +40,9 @@ module _ (first last : ℤ) (size : Size) where
   periods_asked = periods_from (place_of first) (place_of last) (months_in size)
 
   abbrev pub periods_of : Ordered
-  periods_of = cond (are_periods (place_of first) (place_of last) (months_in size)) (Whole periods_asked) (Refused MonthsNotPeriods)
+  periods_of = cond (are_periods (place_of first) (place_of last) (months_in size)) (Ok periods_asked) (Err MonthsNotPeriods)
 
 -- in the documents' numbers: the refusal's, or 0, with the periods; refused ones have 0 in all three places
 abbrev pub ordered_in_numbers : Ordered → ℕ × Periods
-ordered_in_numbers (Whole p) = pair 0 p
-ordered_in_numbers (Refused r) = pair (number r) (record { first = 0; months = 0; knots = 0 })
+ordered_in_numbers (Ok p) = pair 0 p
+ordered_in_numbers (Err r) = pair (number r) (record { first = 0; months = 0; knots = 0 })

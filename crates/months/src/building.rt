@@ -6,11 +6,11 @@ ghost use Rattle.months.specs.Building.{periods_tests, months_verdict, monthly, 
 ghost use Rattle.months.specs.Steps.{InCalendar, Ready};
 
 use crate::knots::fill;
-use crate::periods::{Ordered, Periods, Size, periods_of};
-use assembly::making::{Made, make};
+use crate::periods::{Periods, Size, periods_of};
+use assembly::making::make;
 use curve::build::whole_frame;
-use curve::curve::{Built, Curve};
-use refusal::{Refusal, Verdict};
+use curve::curve::Curve;
+use refusal::Refusal;
 use table::check::{all_finite, average_below, in_unit, room_verdict, seam_too_long};
 use table::ends::Seam;
 use table::method::ConvexMonotone;
@@ -21,36 +21,36 @@ fn periods_verdict(
     periods: Periods,
     averages: &[f64],
     method: ConvexMonotone,
-    seam: Seam,
+    seam: Option<Seam>,
     knots: usize,
     nodes: usize,
     tags: usize,
     slots: usize,
-) -> Verdict
+) -> Result<(), Refusal>
     requires { InCalendar periods }
     ensures { result ≡ first (periods_tests periods averages.now method seam knots nodes tags slots) }
 {
     let count = periods.knots;
     if count != averages.len() {
-        return Verdict::Refused(Refusal::LengthsDiffer);
+        return Err(Refusal::LengthsDiffer);
     }
     if !in_unit(method.monotonicity) {
-        return Verdict::Refused(Refusal::MonotonicityOutside);
+        return Err(Refusal::MonotonicityOutside);
     }
     if !in_unit(method.quadraticity) {
-        return Verdict::Refused(Refusal::QuadraticityOutside);
+        return Err(Refusal::QuadraticityOutside);
     }
     if !all_finite(averages) {
-        return Verdict::Refused(Refusal::AverageNotFinite);
+        return Err(Refusal::AverageNotFinite);
     }
     if seam_too_long(seam, count) {
-        return Verdict::Refused(Refusal::SeamTooLong);
+        return Err(Refusal::SeamTooLong);
     }
     if average_below(averages, method) {
-        return Verdict::Refused(Refusal::AverageBelowZero);
+        return Err(Refusal::AverageBelowZero);
     }
     if knots < count {
-        return Verdict::Refused(Refusal::BufferTooShort);
+        return Err(Refusal::BufferTooShort);
     }
     room_verdict(count, nodes, tags, slots)
 }
@@ -62,20 +62,16 @@ pub fn build_months_verdict(
     size: Size,
     averages: &[f64],
     method: ConvexMonotone,
-    seam: Seam,
+    seam: Option<Seam>,
     knots: usize,
     nodes: usize,
     tags: usize,
     slots: usize,
-) -> Verdict
+) -> Result<(), Refusal>
     ensures { result ≡ months_verdict first last size averages.now method seam knots nodes tags slots }
 {
-    match periods_of(first, last, size) {
-        Ordered::Refused(refusal) => Verdict::Refused(refusal),
-        Ordered::Whole(periods) => {
-            periods_verdict(periods, averages, method, seam, knots, nodes, tags, slots)
-        }
-    }
+    let periods = periods_of(first, last, size)?;
+    periods_verdict(periods, averages, method, seam, knots, nodes, tags, slots)
 }
 
 // The knots and the curve of periods that nothing refuses.
@@ -84,27 +80,25 @@ fn make_periods(
     averages: &[f64],
     method: ConvexMonotone,
     hold: bool,
-    seam: Seam,
+    seam: Option<Seam>,
     knots: &mut [f64],
     nodes: &mut [f64],
     tags: &mut [u16],
     slots: &mut [f64],
-) -> Built
+) -> Result<Curve, Refusal>
     requires { Ready periods (length averages.now) (length knots.old) (length nodes.old) (length tags.old) (length slots.old) }
     ensures { monthly result knots.new nodes.new tags.new slots.new ≡ monthly_built periods averages.now method hold seam knots.old (buffers nodes.old tags.old slots.old) }
 {
     let count = periods.knots;
     fill(periods, knots);
     let frame = whole_frame(count, method, hold, seam);
-    match make(&knots[..count], averages, frame, nodes, tags, slots) {
-        Made::Refused(refusal) => Built::Refused(refusal),
-        Made::Tail(tail) => Built::Curve(Curve {
-            sections: count - 1,
-            held: hold,
-            extrapolates: false,
-            tail,
-        }),
-    }
+    let tail = make(&knots[..count], averages, frame, nodes, tags, slots)?;
+    Ok(Curve {
+        sections: count - 1,
+        held: hold,
+        extrapolates: false,
+        tail,
+    })
 }
 
 // The curve of the periods from a first to a last month, as `build` makes it of their knots, which are written too; or the first refusal, and
@@ -116,32 +110,26 @@ pub fn build_months(
     averages: &[f64],
     method: ConvexMonotone,
     hold: bool,
-    seam: Seam,
+    seam: Option<Seam>,
     knots: &mut [f64],
     nodes: &mut [f64],
     tags: &mut [u16],
     slots: &mut [f64],
-) -> Built
+) -> Result<Curve, Refusal>
     ensures { monthly result knots.new nodes.new tags.new slots.new ≡ monthly_outcome first last size averages.now method hold seam knots.old (buffers nodes.old tags.old slots.old) }
 {
-    match periods_of(first, last, size) {
-        Ordered::Refused(refusal) => Built::Refused(refusal),
-        Ordered::Whole(periods) => {
-            match periods_verdict(
-                periods,
-                averages,
-                method,
-                seam,
-                knots.len(),
-                nodes.len(),
-                tags.len(),
-                slots.len(),
-            ) {
-                Verdict::Refused(refusal) => Built::Refused(refusal),
-                Verdict::Accepted => make_periods(
-                    periods, averages, method, hold, seam, knots, nodes, tags, slots,
-                ),
-            }
-        }
-    }
+    let periods = periods_of(first, last, size)?;
+    periods_verdict(
+        periods,
+        averages,
+        method,
+        seam,
+        knots.len(),
+        nodes.len(),
+        tags.len(),
+        slots.len(),
+    )?;
+    make_periods(
+        periods, averages, method, hold, seam, knots, nodes, tags, slots,
+    )
 }

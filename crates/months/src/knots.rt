@@ -6,15 +6,8 @@ ghost use Rattle.months.specs.Knots.{knot_at, knots_made};
 ghost use Rattle.months.specs.Steps.{InCalendar};
 
 use crate::calendar::month_starts;
-use crate::periods::{Ordered, Periods, Size, periods_of};
+use crate::periods::{Periods, Size, periods_of};
 use refusal::Refusal;
-
-// What is answered to an order of knots: how many there are.
-#[derive(Clone, Copy)]
-pub enum MonthKnots {
-    Made(usize),
-    Refused(Refusal),
-}
 
 pub(crate) fn fill(periods: Periods, knots: &mut [f64])
     requires { InCalendar periods × (periods.knots ≤ length knots.old) }
@@ -29,20 +22,16 @@ pub(crate) fn fill(periods: Periods, knots: &mut [f64])
     }
 }
 
-// The knots of the periods from a first to a last month, written from the start of the lent slice; or the first refusal, 19 or 11, and nothing
-// written.
-pub fn month_knots(first: i64, last: i64, size: Size, knots: &mut [f64]) -> MonthKnots
+// The knots of the periods from a first to a last month, written from the start of the lent slice, and how many they are; or the first refusal, 19 or 11,
+// and nothing written.
+pub fn month_knots(first: i64, last: i64, size: Size, knots: &mut [f64]) -> Result<usize, Refusal>
     ensures { pair result knots.new ≡ knots_made first last size knots.old }
 {
-    match periods_of(first, last, size) {
-        Ordered::Refused(refusal) => MonthKnots::Refused(refusal),
-        Ordered::Whole(periods) => {
-            let count = periods.knots;
-            if knots.len() < count {
-                return MonthKnots::Refused(Refusal::BufferTooShort);
-            }
-            fill(periods, knots);
-            MonthKnots::Made(count)
-        }
+    let periods = periods_of(first, last, size)?;
+    let count = periods.knots;
+    if knots.len() < count {
+        return Err(Refusal::BufferTooShort);
     }
+    fill(periods, knots);
+    Ok(count)
 }

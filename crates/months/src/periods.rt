@@ -5,7 +5,7 @@ ghost use Rattle.months.specs.Periods.{months_in, place_of, are_periods, periods
 use refusal::Refusal;
 
 // How long a period is.
-#[derive(Clone, Copy)]
+#[derive(Clone, Copy, Debug, PartialEq, Eq)]
 pub enum Size {
     Month,
     Quarter,
@@ -30,13 +30,6 @@ pub struct Periods {
     pub first: usize,
     pub months: usize,
     pub knots: usize,
-}
-
-// What an order by months asks for.
-#[derive(Clone, Copy)]
-pub enum Ordered {
-    Whole(Periods),
-    Refused(Refusal),
 }
 
 // The months of the calendar, which ends with December 2099. A month outside it is taken for this one, which it has not.
@@ -71,18 +64,18 @@ fn are_periods(first: usize, last: usize, months: usize) -> bool
 }
 
 // The periods from a first to a last month, which belongs to them; or refusal 19, where they are not whole periods of the calendar.
-pub fn periods_of(first: i64, last: i64, size: Size) -> Ordered
+pub fn periods_of(first: i64, last: i64, size: Size) -> Result<Periods, Refusal>
     ensures { result ≡ periods_of first last size }
 {
     let from = place_of(first);
     let to = place_of(last);
     let months = size.months();
     if are_periods(from, to, months) {
-        return Ordered::Whole(Periods {
+        return Ok(Periods {
             first: from,
             months,
             knots: (to + 1 - from) / months + 1,
         });
     }
-    Ordered::Refused(Refusal::MonthsNotPeriods)
+    Err(Refusal::MonthsNotPeriods)
 }

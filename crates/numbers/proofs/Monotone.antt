@@ -3,15 +3,15 @@ use Prim.Native.Nat as nat
 use Prim.Native.Nat.{ℕ, suc, ◌+◌, ◌-◌, ◌*◌, ◌≤◌, ◌<◌}
 use native.Mathlib.Omega.{arith}
 use native.Mathlib.Nat.{add_comm, mul_assoc, mul_comm, mul_left_comm, mul-one, zero-mul, mul-zero, add-zero, zero-add, add-mul, mul-pos, mul-le-mul_right, le_refl, zero-lt-suc}
-use mathlib.Core.Bool.{Bool, true, false, not}
+use mathlib.Core.Bool.{Bool, true, false}
 use mathlib.Core.Logic.{◌⊎◌, inl, inr, ⊎_elim}
 use mathlib.Core.Path.{◌≡◌, refl, sym}
 use lib.IntN.{ℤ}
 use lib.Dec.{lit<}
-use lib.Ieee.{Float, nan, inf, fin, binary64, round, sum, add, sub, mul, div, neg, unlike, below, lt, le, up, down}
+use lib.Ieee.{Float, nan, inf, fin, binary64, sum, add, sub, mul, div, neg, unlike, below, lt, le, up, down}
 use lib.Ieee.Fits.{down_pos, up_pos}
 use borrow.Author.Tests.{ltb-false, ltb-true, lt-ltb, le-ltb, ne_eqb}
-use Rattle.numbers.specs.Words.{◌⊕◌, ◌⊖◌, ◌⊗◌, ◌⊘◌, zero, one, finite}
+use Rattle.numbers.specs.Words.{◌⊕◌, ◌⊖◌, ◌⊗◌, ◌⊘◌, zero, finite}
 use Rattle.numbers.proofs.Ways.{never, lt_or_le}
 use Rattle.numbers.proofs.AtMost.{plus, less, le_at_most, at_most_le, le_on, test, plus_mul, less_mul}
 use Rattle.numbers.proofs.Rounding.{Rounded, rounds, rounded_mono, zero_rounded}

@@ -4,12 +4,11 @@ use Prim.Native.Nat.{ℕ, suc, ◌+◌, ◌-◌, ◌*◌, ◌^◌, ◌≤◌, �
 use native.Mathlib.Omega.{arith}
 use native.Mathlib.Nat.{zero-mul, mul-zero, mul-one, mul-pos}
 use mathlib.Core.Bool.{Bool, true, false, not, ◌&&◌, cond}
-use mathlib.Core.Logic.{◌⊎◌, inl, inr}
 use mathlib.Core.Path.{◌≡◌, refl, ap, ◌∙◌}
 use borrow.Author.Tests.{lt-ltb, le-ltb, ltb-true}
-use lib.IntN.{ℤ, pos}
+use lib.IntN.{pos}
 use lib.Dec.{ltb, eqb}
-use lib.Ieee.{Float, nan, inf, fin, Format, binary64, prec, emax, low, odd, units, round, unlike, neg, sum, add, sub, mul, div, lt, le, eq, up, down, of_bits}
+use lib.Ieee.{Float, nan, inf, fin, Format, binary64, prec, emax, low, odd, units, round, neg, sum, add, sub, mul, div, lt, le, eq, up, down, of_bits}
 use lib.Ieee.Fits.{round_is, down_pos}
 use Rattle.numbers.specs.Words.{◌⊕◌, ◌⊖◌, ◌⊗◌, ◌⊘◌, zero}
 use Rattle.numbers.proofs.Ways.{never, of_both}

@@ -8,6 +8,8 @@ ghost use Rattle.std.specs.Float.Ieee.{of_bits, to_bits};
 ghost use Rattle.numbers.specs.Marks.{mark};
 ghost use Rattle.numbers.specs.Words.{finite, abs, ordinary_size, ordinary_divisor};
 
+use std::num::{f64_from_bits_with_nan, f64_to_bits_with_nan};
+
 // The numbers of a section itself, in its record: a weight, and the fields of its two parts.
 pub const FIELDS: usize = 24;
 
@@ -23,13 +25,14 @@ pub const MOST_SIZE: f64 = 1.2089258196146292e24;
 pub const LEAST_DIVISOR: f64 = 9.094947017729282e-13;
 
 // Whether x is neither a NaN nor an infinity. No bit pattern is looked at, so a loop of these stays plain float code.
+#[tactic(auto, using(crate::proofs::Finite::std_finite))]
 pub fn is_finite(x: f64) -> bool
     ensures { result ≡ finite x }
 {
-    x - x == 0.0
+    x.is_finite()
 }
 
-// A number with the mark whether it is finite. Its bits are what the formula gave, so that what is stored of it stays the same.
+// A number with the mark whether it is finite. Its bits are what the formula gave, so that what is stored of it stays the same: an Option would lose them.
 #[derive(Clone, Copy)]
 pub struct Marked {
     pub number: f64,
@@ -45,6 +48,7 @@ pub fn mark(x: f64) -> Marked
     }
 }
 
+// With `&` and not `&&`, so that a loop of these has no branch.
 pub fn is_ordinary_size(x: f64) -> bool
     ensures { result ≡ ordinary_size x }
 {
@@ -57,35 +61,24 @@ pub fn is_ordinary_divisor(x: f64) -> bool
     LEAST_DIVISOR <= x
 }
 
-// x without its sign; -0.0 becomes +0.0. With the zeros out of the way the compiler needs no branch for the sign, which it could not foresee.
+// x without its sign; -0.0 becomes +0.0. No branch is made for the sign, which the processor could not foresee.
+#[tactic(auto, using(crate::proofs::Signs::std_abs))]
 pub fn abs(x: f64) -> f64
     ensures { result ≡ abs x }
 {
-    if x == 0.0 {
-        return 0.0;
-    }
-    if x < 0.0 {
-        return -x;
-    }
-    x
+    x.abs()
 }
 
 // The number with these bits; every NaN's pattern is the NaN.
 pub fn of_bits(bits: u64) -> f64
     ensures { result ≡ of_bits binary64 bits }
 {
-    if 0x7ff0_0000_0000_0000 < bits % 0x8000_0000_0000_0000 {
-        return 0.0 / 0.0;
-    }
-    f64::from_bits(bits)
+    f64_from_bits_with_nan(bits)
 }
 
 // The bits of x; a NaN's are 7ff8000000000000, whatever pattern the machine holds.
 pub fn to_bits(x: f64) -> u64
     ensures { result ≡ to_bits binary64 x }
 {
-    if x != x {
-        return 0x7ff8_0000_0000_0000;
-    }
-    f64::to_bits(x)
+    f64_to_bits_with_nan(x)
 }

@@ -1,4 +1,5 @@
 -- The contract of `answer` in the documents' numbers: 11 for a buffer that is too short, and else no refusal.
+use Rattle.std.specs.Prelude.{Ok, Err}
 use Prim.Native.Nat.{ℕ}
 use mathlib.Core.Bool.{Bool, true, false, cond}
 use mathlib.Core.List.{List}
@@ -8,13 +9,11 @@ use lib.ListN.{length}
 use Rattle.numbers.specs.OneOutcome.{Follows, pair}
 use Rattle.refusal.specs.Refusal.{number}
 use Rattle.refusal.specs.declared.Refusal.TheVariants.{BufferTooShort}
-use Rattle.order.specs.Answer.{text_of, order_in_numbers}
-use Rattle.order.specs.declared.answer.OrderAnswer.{OrderAnswer}
-use Rattle.order.specs.declared.answer.OrderAnswer.TheVariants as order-answer
+use Rattle.order.specs.Answer.{text_of, order_in_numbers, OrderAnswer}
 use Rattle.order.proofs.answer.answer.Reads as answer
 
 by_room : (o out : List ℕ) (short : Bool) →
-    (order_in_numbers (cond short (pair order-answer.TooShort out) (let text = text_of o out in pair (order-answer.Text text.0) text.1)).0).0 ≡ cond short (number BufferTooShort) 0
+    (order_in_numbers (cond short (pair (Err BufferTooShort) out) (let text = text_of o out in pair (Ok text.0) text.1)).0).0 ≡ cond short (number BufferTooShort) 0
 by_room o out true = refl
 by_room o out false = refl
 

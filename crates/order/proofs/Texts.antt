@@ -1,4 +1,6 @@
 -- The text from its lines, and a table from an order's bytes.
+use Rattle.refusal.specs.declared.Refusal.TheVariants.{BufferTooShort}
+use Rattle.std.specs.Prelude.{Err, None, Ok}
 use Prim.Native.Nat.{ℕ, zero, suc, ◌+◌, ◌-◌, ◌*◌, ◌/◌, ◌%◌, ◌≤◌, ◌<◌}
 use native.Mathlib.Omega.{arith}
 use native.Mathlib.Nat.{zero-add}
@@ -19,18 +21,13 @@ use Rattle.numbers.proofs.Overlay.{overlay_same, overlay_join, length_overlay}
 use Rattle.refusal.specs.Refusal.{number}
 use Rattle.refusal.specs.declared.Refusal.TheVariants.{OrderMalformed}
 use Rattle.refusal.specs.declared.Refusal.{Refusal}
-use Rattle.curve.specs.Curve.{with_extrapolation}
+use Rattle.curve.specs.Curve.{with_extrapolation, Built}
 use Rattle.curve.specs.declared.curve.Curve.{Curve}
-use Rattle.curve.specs.declared.curve.Built.{Built}
-use Rattle.curve.specs.declared.curve.Built.TheVariants as built
-use Rattle.order.specs.Answer.{line_of, line_byte, length_for, byte_for, text_for, ordered, room, text_of, answered}
+use Rattle.order.specs.Answer.{line_of, line_byte, length_for, byte_for, text_for, ordered, room, text_of, answered, OrderAnswer}
 use Rattle.order.specs.Form.{number_at, header_of, points_of, queries_of, well_formed, points, queries, hold, allow, method, knots, averages, list_of}
 use Rattle.order.specs.Text.{build_byte, query_byte}
 use Rattle.order.specs.declared.asking.Line.{Line}
-use Rattle.order.specs.declared.answer.OrderAnswer.{OrderAnswer}
-use Rattle.order.specs.declared.answer.OrderAnswer.TheVariants as order-answer
 use Rattle.table.specs.declared.method.ConvexMonotone.{ConvexMonotone}
-use Rattle.table.specs.declared.ends.Seam.TheVariants as seam
 use Rattle.table.specs.Buffers.{Buffers, Outcome}
 use Rattle.curve.specs.Build.{build_outcome}
 
@@ -59,7 +56,7 @@ module _ (o : List ℕ) (from : ℕ) (x : List Float) (c : Curve) (tags : List �
 -- the build's line, and then the queries'
 module _ (o : List ℕ) (x : List Float) (tags : List ℕ) (slots : List Float) (c : Curve) (d : Curve) where
   abbrev F : ℕ → ℕ
-  F = byte_for o x tags slots (built.Curve c)
+  F = byte_for o x tags slots (Ok c)
 
   head_same : (i : ℕ) → i < 10 → build_byte 0 c.sections i ≡ F i
   head_same i h = rw (lt-ltb i 10 h)
@@ -103,10 +100,10 @@ filled (suc n) f xs h =
 
 -- by what was built
 module _ (o : List ℕ) (x : List Float) (made : Outcome Built) where
-  pub refused_text : (r : Refusal) (n : ℕ) (old new : List ℕ) → made.answer ≡ built.Refused r → n ≡ number r → new ≡ overlay 0 10 (build_byte n 0) old → pair 10 new ≡ text_for o x made old
+  pub refused_text : (r : Refusal) (n : ℕ) (old new : List ℕ) → made.answer ≡ Err r → n ≡ number r → new ≡ overlay 0 10 (build_byte n 0) old → pair 10 new ≡ text_for o x made old
   refused_text r n old new h e f = rw h (ap (pair 10) (f ∙ ap (λ (k : ℕ). overlay 0 10 (build_byte k 0) old) e))
 
-  pub curve_text : (c d : Curve) (from n m : ℕ) (old mid new : List ℕ) → made.answer ≡ built.Curve c → d ≡ with_extrapolation c (allow o) → from ≡ 20 + 16 * points o → n ≡ queries o →
+  pub curve_text : (c d : Curve) (from n m : ℕ) (old mid new : List ℕ) → made.answer ≡ Ok c → d ≡ with_extrapolation c (allow o) → from ≡ 20 + 16 * points o → n ≡ queries o →
       m ≡ c.sections → mid ≡ overlay 0 10 (build_byte 0 m) old → new ≡ overlay 10 (39 * n) (line_byte o from x d made.buffers.tags made.buffers.slots) mid →
       pair (10 + 39 * n) new ≡ text_for o x made old
   curve_text c d from n m old mid new h ed ef en em eo ew =
@@ -114,9 +111,9 @@ module _ (o : List ℕ) (x : List Float) (made : Outcome Built) where
 
 -- a build by the order's own settings
 pub told_text : (o : List ℕ) (x y : List Float) (b : Buffers) (m : ConvexMonotone) (h : Bool) (made : Outcome Built) (old : List ℕ) (p : ℕ × List ℕ) → m ≡ method o → h ≡ hold o →
-    made ≡ build_outcome x y m h seam.Absent b → p ≡ text_for o x made old → p ≡ text_for o x (ordered o x y b) old
+    made ≡ build_outcome x y m h None b → p ≡ text_for o x made old → p ≡ text_for o x (ordered o x y b) old
 told_text o x y b m h made old p em eh eb ep =
-    ep ∙ ap (λ (q : Outcome Built). text_for o x q old) (eb ∙ ap (λ (k : ConvexMonotone). build_outcome x y k h seam.Absent b) em ∙ ap (λ (k : Bool). build_outcome x y (method o) k seam.Absent b) eh)
+    ep ∙ ap (λ (q : Outcome Built). text_for o x q old) (eb ∙ ap (λ (k : ConvexMonotone). build_outcome x y k h None b) em ∙ ap (λ (k : Bool). build_outcome x y (method o) k None b) eh)
 
 -- the table as it was read
 module _ (o : List ℕ) (n : ℕ) (old new : List Float) (e : n ≡ points o) (h : points o ≤ length old) where
@@ -134,23 +131,23 @@ form_text o x y b old p ex ey ep =
 
 -- the answer, by the room and the form
 module _ (o out : List ℕ) where
-  pub too_short : ltb (length out) 2506 ≡ true → pair order-answer.TooShort out ≡ answered o out
+  pub too_short : ltb (length out) 2506 ≡ true → pair (Err BufferTooShort) out ≡ answered o out
   too_short h = rw h
 
   pub malformed : (new : List ℕ) (n : ℕ) → ltb (length out) 2506 ≡ false → well_formed o ≡ false → n ≡ number OrderMalformed → new ≡ overlay 0 10 (build_byte n 0) out →
-      pair (order-answer.Text 10) new ≡ answered o out
-  malformed new n h f g e = rw (h, f) (ap (pair (order-answer.Text 10)) (e ∙ ap (λ (m : ℕ). overlay 0 10 (build_byte m 0) out) g))
+      pair (Ok 10) new ≡ answered o out
+  malformed new n h f g e = rw (h, f) (ap (pair (Ok 10)) (e ∙ ap (λ (m : ℕ). overlay 0 10 (build_byte m 0) out) g))
 
   abbrev as_text : ℕ × List ℕ → OrderAnswer × List ℕ
-  as_text p = pair (order-answer.Text p.0) p.1
+  as_text p = pair (Ok p.0) p.1
 
   pub well : (p : ℕ × List ℕ) → ltb (length out) 2506 ≡ false → well_formed o ≡ true → p ≡ text_for o (knots o) (ordered o (knots o) (averages o) room) out → as_text p ≡ answered o out
   well p h f e = ap as_text e ∙ rw (h, f)
 
 -- no text is longer than the longest
 few_lines : (o : List ℕ) (b : Built) → queries o ≤ 64 → length_for o b ≤ 2506
-few_lines o (built.Curve c) h = omega (arith, h)
-few_lines o (built.Refused r) h = omega arith
+few_lines o (Ok c) h = omega (arith, h)
+few_lines o (Err r) h = omega arith
 
 text_fits : (o out : List ℕ) → ((text_of o out).0 ≤ 2506) × (length (text_of o out).1 ≡ length out)
 text_fits o out = by (well_formed o) (λ h. (counts o h).few_queries)
@@ -165,15 +162,15 @@ text_fits o out = by (well_formed o) (λ h. (counts o h).few_queries)
     by false h = (omega arith, length_overlay 0 10 (build_byte 17 0) out)
 
 abbrev in_text : ℕ → OrderAnswer → ℕ
-in_text d (order-answer.Text n) = n
-in_text d order-answer.TooShort = d
+in_text d (Ok n) = n
+in_text d (Err r) = d
 
 -- a text stands wholly in the buffer that it was written to
-pub holds_text : (o out : List ℕ) (p : OrderAnswer × List ℕ) (n : ℕ) → length out ≡ 2506 → p ≡ answered o out → p.0 ≡ order-answer.Text n → n ≤ length p.1
+pub holds_text : (o out : List ℕ) (p : OrderAnswer × List ℕ) (n : ℕ) → length out ≡ 2506 → p ≡ answered o out → p.0 ≡ Ok n → n ≤ length p.1
 holds_text o out p n l e h = by (ltb (length out) 2506) (le-ltb (length out) 2506 (omega (arith, l))) (ap (in_text 0) (sym h ∙ ap (λ (q : OrderAnswer × List ℕ). q.0) e)) (ap (λ (q : OrderAnswer × List ℕ). length q.1) e)
   where
     answer : Bool → OrderAnswer × List ℕ
-    answer b = cond b (pair order-answer.TooShort out) (pair (order-answer.Text (text_of o out).0) (text_of o out).1)
+    answer b = cond b (pair (Err BufferTooShort) out) (pair (Ok (text_of o out).0) (text_of o out).1)
 
     by : (b : Bool) → b ≡ false → n ≡ in_text 0 (answer b).0 → length p.1 ≡ length (answer b).1 → n ≤ length p.1
     by true z u v = never refl z

@@ -1,20 +1,19 @@
 // An order answered: its bytes go in, and the text goes into a lent buffer.
-ghost use Rattle.std.specs.Prelude.{◌≡◌, true, [], ◌+◌, ◌-◌, ◌*◌, ◌≤◌, ◌<◌, length};
+ghost use Rattle.std.specs.Prelude.{◌≡◌, [], ◌+◌, ◌-◌, ◌*◌, ◌≤◌, ◌<◌, length};
 ghost use Rattle.numbers.specs.OneOutcome.{pair};
 ghost use Rattle.numbers.specs.Overlay.{overlay};
 ghost use Rattle.table.specs.Buffers.{buffers, outcome};
-ghost use Rattle.order.specs.Form.{header_of, well_formed, method, knots, averages};
-ghost use Rattle.order.specs.Answer.{line_byte, text_for, ordered, answered};
+ghost use Rattle.order.specs.Form.{points, queries, knots, averages};
+ghost use Rattle.order.specs.Answer.{line_byte, text_for, ordered, room, answered};
 
-use crate::asking::{ask, wide};
-use crate::form::{bit, float_at, header_of, points_of, queries_of, read_floats, well_formed};
+use crate::asking::ask;
+use crate::form::Form;
 use crate::text::{put_build, put_query};
 use curve::build::build;
-use curve::curve::{Built, Curve};
+use curve::curve::Curve;
 use numbers::SLOTS;
 use refusal::Refusal;
 use table::ends::Seam;
-use table::method::ConvexMonotone;
 
 // The longest text: a line for the build and 64 for queries.
 const LONGEST: usize = 2506;
@@ -22,76 +21,48 @@ const LONGEST: usize = 2506;
 // The slots of the largest table that an order can have.
 const ROOM: usize = 200 * SLOTS;
 
-// What answering returns: how long the text is, or that the buffer could not hold the longest.
-#[derive(Clone, Copy)]
-pub enum OrderAnswer {
-    Text(usize),
-    TooShort,
-}
-
-fn method_of(order: &[u8], header: u64) -> ConvexMonotone
-    requires { header ≡ header_of order.now }
-    ensures { result ≡ method order.now }
-{
-    ConvexMonotone::new(
-        float_at(order, 4),
-        float_at(order, 12),
-        bit(header, 0x8000_0000),
-    )
-}
-
 // A line to each query, from the tenth byte on.
-fn put_queries(
-    order: &[u8],
-    from: usize,
-    count: usize,
-    xs: &[f64],
-    curve: Curve,
-    tags: &[u16],
-    slots: &[f64],
-    out: &mut [u8],
-)
-    requires { (from ≤ 3220) × (count ≤ 64) × (2506 ≤ length out.old) }
-    ensures { out.new ≡ overlay 10 (39 * count) (line_byte order.now from xs.now curve tags.now slots.now) out.old }
+fn put_queries(form: Form, xs: &[f64], curve: Curve, tags: &[u16], slots: &[f64], out: &mut [u8])
+    requires { 2506 ≤ length out.old }
+    ensures { out.new ≡ overlay 10 (39 * queries form.entry.bytes.now) (line_byte form.entry.bytes.now (20 + 16 * points form.entry.bytes.now) xs.now curve tags.now slots.now) out.old }
 {
+    let from = 20 + 16 * form.points();
+    let count = form.queries();
     for k in 0..count {
-        let line = ask(xs, curve, tags, slots, float_at(order, from + 8 * k));
-        put_query(out, 10 + 39 * k, line.refusal, line.value, line.primitive);
+        let line = ask(xs, curve, tags, slots, form.float_at(from + 8 * k));
+        put_query(out, 10 + 39 * k, line);
     }
 }
 
 // The lines of a build that was accepted or refused; answers how long they are.
 fn put_answer(
-    order: &[u8],
-    header: u64,
+    form: Form,
     xs: &[f64],
-    built: Built,
+    built: Result<Curve, Refusal>,
     tags: &[u16],
     slots: &[f64],
     out: &mut [u8],
 ) -> usize
-    requires { (header ≡ header_of order.now) × (well_formed order.now ≡ true) × (2506 ≤ length out.old) }
-    ensures { pair result out.new ≡ text_for order.now xs.now (outcome built [] tags.now slots.now) out.old }
+    requires { 2506 ≤ length out.old }
+    ensures { pair result out.new ≡ text_for form.entry.bytes.now xs.now (outcome built [] tags.now slots.now) out.old }
 {
     match built {
-        Built::Refused(refusal) => {
-            put_build(out, wide(refusal.number()), 0);
+        Err(refusal) => {
+            put_build(out, u64::from(refusal.number()), 0);
             10
         }
-        Built::Curve(curve) => {
+        Ok(curve) => {
             put_build(out, 0, curve.sections as u64);
-            let from = 20 + 16 * points_of(header);
-            let queries = queries_of(header);
-            let asked = curve.with_extrapolation(bit(header, 0x2000_0000));
-            put_queries(order, from, queries, xs, asked, tags, slots, out);
-            10 + 39 * queries
+            let asked = curve.with_extrapolation(form.allow());
+            put_queries(form, xs, asked, tags, slots, out);
+            10 + 39 * form.queries()
         }
     }
 }
 
 // The table of an order, built and asked.
 fn answer_table(
-    order: &[u8],
+    form: Form,
     xs: &[f64],
     ys: &[f64],
     nodes: &mut [f64],
@@ -99,59 +70,50 @@ fn answer_table(
     slots: &mut [f64],
     out: &mut [u8],
 ) -> usize
-    requires { (well_formed order.now ≡ true) × (2506 ≤ length out.old) }
-    ensures { pair result out.new ≡ text_for order.now xs.now (ordered order.now xs.now ys.now (buffers nodes.old tags.old slots.old)) out.old }
+    requires { 2506 ≤ length out.old }
+    ensures { pair result out.new ≡ text_for form.entry.bytes.now xs.now (ordered form.entry.bytes.now xs.now ys.now (buffers nodes.old tags.old slots.old)) out.old }
 {
-    let header = header_of(order);
-    let method = method_of(order, header);
-    let hold = bit(header, 0x4000_0000);
-    let built = build(xs, ys, method, hold, Seam::Absent, nodes, tags, slots);
-    put_answer(order, header, xs, built, tags, slots, out)
+    let built = build(xs, ys, form.method(), form.hold(), None, nodes, tags, slots);
+    put_answer(form, xs, built, tags, slots, out)
 }
 
-// A well-formed order: its table is read into lent room.
-fn answer_form(
-    order: &[u8],
-    xs: &mut [f64],
-    ys: &mut [f64],
-    nodes: &mut [f64],
-    tags: &mut [u16],
-    slots: &mut [f64],
-    out: &mut [u8],
-) -> usize
-    requires { (well_formed order.now ≡ true) × (200 ≤ length xs.old) × (200 ≤ length ys.old) × (2506 ≤ length out.old) }
-    ensures { pair result out.new ≡ text_for order.now (knots order.now) (ordered order.now (knots order.now) (averages order.now) (buffers nodes.old tags.old slots.old)) out.old }
+// The text of a well-formed order, whose table is read first; answers how long it is.
+fn answer_form(form: Form, out: &mut [u8]) -> usize
+    requires { 2506 ≤ length out.old }
+    ensures { pair result out.new ≡ text_for form.entry.bytes.now (knots form.entry.bytes.now) (ordered form.entry.bytes.now (knots form.entry.bytes.now) (averages form.entry.bytes.now) room) out.old }
 {
-    let points = points_of(header_of(order));
-    read_floats(order, 20, points, xs);
-    read_floats(order, 20 + 8 * points, points, ys);
-    answer_table(order, &xs[..points], &ys[..points], nodes, tags, slots, out)
-}
-
-// Answers an order. The text is at most 2,506 bytes; a buffer that could not hold the longest is not written to. An order that is not well formed has
-// its own text.
-pub fn answer(order: &[u8], out: &mut [u8]) -> OrderAnswer
-    ensures { pair result out.new ≡ answered order.now out.old }
-{
-    if out.len() < LONGEST {
-        return OrderAnswer::TooShort;
-    }
-    if !well_formed(order) {
-        put_build(out, wide(Refusal::OrderMalformed.number()), 0);
-        return OrderAnswer::Text(10);
-    }
+    let points = form.points();
     let mut knots = [0.0; 200];
     let mut averages = [0.0; 200];
     let mut nodes = [0.0; 200];
     let mut tags = [0u16; 200];
     let mut slots = [0.0; ROOM];
-    OrderAnswer::Text(answer_form(
-        order,
-        &mut knots,
-        &mut averages,
+    form.read_floats(20, points, &mut knots);
+    form.read_floats(20 + 8 * points, points, &mut averages);
+    answer_table(
+        form,
+        &knots[..points],
+        &averages[..points],
         &mut nodes,
         &mut tags,
         &mut slots,
         out,
-    ))
+    )
+}
+
+// Answers an order. The text is at most 2,506 bytes; a buffer that could not hold the longest is not written to. An order that is not well formed has
+// its own text.
+pub fn answer(order: &[u8], out: &mut [u8]) -> Result<usize, Refusal>
+    ensures { pair result out.new ≡ answered order.now out.old }
+{
+    if out.len() < LONGEST {
+        return Err(Refusal::BufferTooShort);
+    }
+    match Form::of(order) {
+        None => {
+            put_build(out, u64::from(Refusal::OrderMalformed.number()), 0);
+            Ok(10)
+        }
+        Some(form) => Ok(answer_form(form, out)),
+    }
 }

@@ -3,8 +3,9 @@ ghost use Rattle.std.specs.Prelude.{◌≡◌};
 ghost use Rattle.order.specs.Answer.{refused_line, line_of};
 
 use curve::curve::Curve;
+use query::answer::finite;
 use query::single::{primitive, value};
-use refusal::{Refusal, Verdict};
+use refusal::Refusal;
 
 // A query's refusal, or 0, and the bits of its two numbers, which are 0 where it is refused.
 #[derive(Clone, Copy)]
@@ -14,18 +15,12 @@ pub(crate) struct Line {
     pub primitive: u64,
 }
 
-pub(crate) fn wide(b: u8) -> u64
-    ensures { result ≡ b }
-{
-    b as u64
-}
-
 // No number stands beside a refusal.
 fn refused(refusal: Refusal) -> Line
     ensures { result ≡ refused_line refusal }
 {
     Line {
-        refusal: wide(refusal.number()),
+        refusal: u64::from(refusal.number()),
         value: 0,
         primitive: 0,
     }
@@ -36,19 +31,15 @@ fn refused(refusal: Refusal) -> Line
 pub(crate) fn ask(xs: &[f64], curve: Curve, tags: &[u16], slots: &[f64], q: f64) -> Line
     ensures { result ≡ line_of xs.now curve tags.now slots.now q }
 {
-    let price = value(xs, curve, tags, slots, q);
-    match price.verdict() {
-        Verdict::Refused(refusal) => refused(refusal),
-        Verdict::Accepted => {
-            let total = primitive(xs, curve, tags, slots, q);
-            match total.verdict() {
-                Verdict::Refused(refusal) => refused(refusal),
-                Verdict::Accepted => Line {
-                    refusal: 0,
-                    value: numbers::to_bits(price.number()),
-                    primitive: numbers::to_bits(total.number()),
-                },
-            }
-        }
+    match finite(value(xs, curve, tags, slots, q)) {
+        Err(refusal) => refused(refusal),
+        Ok(price) => match finite(primitive(xs, curve, tags, slots, q)) {
+            Err(refusal) => refused(refusal),
+            Ok(total) => Line {
+                refusal: 0,
+                value: numbers::to_bits(price),
+                primitive: numbers::to_bits(total),
+            },
+        },
     }
 }

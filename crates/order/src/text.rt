@@ -3,19 +3,14 @@ ghost use Rattle.std.specs.Prelude.{◌≡◌, ◌+◌, ◌-◌, ◌≤◌, ◌<
 ghost use Rattle.numbers.specs.Overlay.{overlay};
 ghost use Rattle.order.specs.Text.{decimal, hexadecimal, hex_at, build_byte, query_byte};
 
-fn narrow(d: u64) -> u8
-    requires { d < 256 }
-    ensures { result ≡ d }
-{
-    d as u8
-}
+use crate::asking::Line;
 
 // The decimal digit of a worth.
 fn decimal(n: u64, worth: u64) -> u8
     requires { 0 < worth }
     ensures { result ≡ decimal n worth }
 {
-    narrow(48 + n / worth % 10)
+    (48 + n / worth % 10) as u8
 }
 
 fn hexadecimal(d: u64) -> u8
@@ -23,12 +18,12 @@ fn hexadecimal(d: u64) -> u8
     ensures { result ≡ hexadecimal d }
 {
     if d < 10 {
-        return narrow(48 + d);
+        return (48 + d) as u8;
     }
-    narrow(87 + d)
+    (87 + d) as u8
 }
 
-// Sixteen hexadecimal digits, the most significant first.
+// Sixteen hexadecimal digits, the most significant first. By places, as all of a line is written and as the contract has it.
 fn put_hex(out: &mut [u8], at: usize, w: u64)
     requires { (at ≤ 4096) × (at + 16 ≤ length out.old) }
     ensures { out.new ≡ overlay at 16 (hex_at w) out.old }
@@ -70,13 +65,13 @@ fn put_start(out: &mut [u8], at: usize, refusal: u64)
 }
 
 // `Q rr v p`
-pub(crate) fn put_query(out: &mut [u8], at: usize, refusal: u64, value: u64, primitive: u64)
+pub(crate) fn put_query(out: &mut [u8], at: usize, line: Line)
     requires { (at ≤ 4000) × (at + 39 ≤ length out.old) }
-    ensures { out.new ≡ overlay at 39 (query_byte refusal value primitive) out.old }
+    ensures { out.new ≡ overlay at 39 (query_byte line.refusal line.value line.primitive) out.old }
 {
-    put_start(out, at, refusal);
-    put_hex(out, at + 5, value);
+    put_start(out, at, line.refusal);
+    put_hex(out, at + 5, line.value);
     out[at + 21] = b' ';
-    put_hex(out, at + 22, primitive);
+    put_hex(out, at + 22, line.primitive);
     out[at + 38] = b'\n';
 }

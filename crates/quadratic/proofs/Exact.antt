@@ -3,12 +3,12 @@ use Prim.Native.Nat.{ℕ, suc, ◌+◌, ◌-◌, ◌*◌, ◌≤◌, ◌<◌}
 use Prim.Native.Nat as nat
 use native.Mathlib.Omega.{arith}
 use native.Mathlib.Nat.{add-mul, mul-add, mul_assoc, mul_comm, mul_left_comm, mul-one, mul-pos, zero-mul, mul-zero, add-sub_of_le, le_of_lt}
-use mathlib.Core.Bool.{Bool, true, false, not, ◌&&◌}
+use mathlib.Core.Bool.{Bool, true, false, not}
 use mathlib.Core.Logic.{⊎_elim}
-use mathlib.Core.Path.{◌≡◌, refl, sym, ap, subst, ◌∙◌}
+use mathlib.Core.Path.{◌≡◌, refl, ap, subst}
 use borrow.Author.Tests.{le-leb, lt-leb, ltb-true}
-use lib.IntN.{ℤ, pos}
-use lib.Ieee.{Float, fin, lt, le, up, down, of_bits}
+use lib.IntN.{ℤ}
+use lib.Ieee.{fin, lt, le, up, down, of_bits}
 use lib.Ieee.Fits.{down_pos}
 use Rattle.numbers.specs.Words.{zero}
 use Rattle.numbers.proofs.Plus.{not_under}

@@ -1,5 +1,5 @@
 -- Our own: the safe split beside the careful one. Its record is the touching parabola no longer than its period, the flat one, or the one that is not split.
-use mathlib.Core.Bool.{Bool, true, false, cond, ◌&&◌}
+use mathlib.Core.Bool.{Bool, true, false, cond}
 use mathlib.Core.Logic.{◌⊎◌, inl, inr, ⊎_elim}
 use mathlib.Core.Path.{◌≡◌, refl, sym, ap, ◌∙◌}
 use lib.Ieee.{Float, binary64, le, lt, of_bits}

@@ -11,3 +11,7 @@ b_of f_prev f_next f_average = neg (four ⊗ f_prev ⊕ two ⊗ f_next ⊖ six �
 
 abbrev pub under : Float → Float → Float → Float → Float → Float → Float
 under prev_primitive x_scaling a b c v = prev_primitive ⊕ x_scaling ⊗ (a ⊘ three ⊗ v ⊗ v ⊕ b ⊘ two ⊗ v ⊕ c) ⊗ v
+
+-- b² - 4ac
+abbrev pub discriminant : Float → Float → Float → Float
+discriminant a b c = b ⊗ b ⊖ four ⊗ a ⊗ c

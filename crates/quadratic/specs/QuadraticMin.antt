@@ -1,11 +1,13 @@
 -- 000, QuadraticMinHelper
-use Rattle.std.specs.Prelude.{Bool, true, false, not, ◌&&◌, ◌||◌, Float}
+use Rattle.std.specs.Prelude.{Bool, true, false, not, ◌&&◌, Float}
 use Rattle.std.proofs.Math.Bool.{cond}
-use Rattle.std.specs.Float.Ieee.{le, lt, eq, neg}
+use Rattle.std.specs.Float.Ieee.{le, lt, neg}
 use Rattle.numbers.specs.Words.{◌⊕◌, ◌⊖◌, ◌⊗◌, ◌⊘◌, zero, one, two, three, four, twenty_four, thirty_six, narrow, ordinary_ratio}
 use Rattle.root.specs.Root.{root}
 use Rattle.quadratic.specs.Parabola.{a_of, b_of, under}
 use Rattle.quadratic.specs.declared.quadratic_min.QuadraticMin.{QuadraticMin}
+use Rattle.quadratic.specs.declared.quadratic_min.Rule.{Rule}
+use Rattle.quadratic.specs.declared.quadratic_min.Rule.TheVariants.{Original, Careful, Safe}
 
 module _ (f_prev f_next : Float) where
   abbrev pub b_av : Float
@@ -118,29 +120,40 @@ module _ (x_prev x_next f_prev f_next f_average prev_primitive : Float) where
       whole
 
 -- Steps of the code: any of the three rules in one place.
-unfoldable pub ratio_passes : Bool → Bool → Float → Bool
-ratio_passes is_safe any ratio = cond is_safe (in_sight ratio) (any || in_period ratio)
+abbrev pub ratio_passes : Rule → Float → Bool
+ratio_passes Original ratio = true
+ratio_passes Careful ratio = in_period ratio
+ratio_passes Safe ratio = in_sight ratio
 
-module _ (is_safe : Bool) (f_prev f_next : Float) where
-  unfoldable pub under_root : Float
-  under_root = cond is_safe (f_prev ⊗ f_next) (d_av f_prev f_next)
+abbrev pub flattens : Rule → Float → Bool
+flattens Original ratio = false
+flattens Careful ratio = false
+flattens Safe ratio = le ratio narrow
 
-  unfoldable pub turning : Float
-  turning = cond is_safe (touching f_prev f_next) (av_root f_prev f_next)
+abbrev pub under_root : Rule → Float → Float → Float
+under_root Original f_prev f_next = d_av f_prev f_next
+under_root Careful f_prev f_next = d_av f_prev f_next
+under_root Safe f_prev f_next = f_prev ⊗ f_next
 
-  unfoldable pub passes : Float → Bool
-  passes f_average = cond is_safe (splits_safely f_prev f_next f_average) (splits f_prev f_next f_average)
+abbrev pub turning : Rule → Float → Float → Float
+turning Original f_prev f_next = av_root f_prev f_next
+turning Careful f_prev f_next = av_root f_prev f_next
+turning Safe f_prev f_next = touching f_prev f_next
 
-module _ (is_safe any : Bool) (x_prev x_next f_prev f_next f_average prev_primitive : Float) where
+abbrev pub passes : Rule → Float → Float → Float → Bool
+passes Original f_prev f_next f_average = splits f_prev f_next f_average
+passes Careful f_prev f_next f_average = splits f_prev f_next f_average
+passes Safe f_prev f_next f_average = splits_safely f_prev f_next f_average
+
+module _ (rule : Rule) (x_prev x_next f_prev f_next f_average prev_primitive : Float) where
   unfoldable pub split_at : QuadraticMin
-  unfolding turning passes ratio_passes
   split_at =
-      let ratio = f_average ⊘ turning is_safe f_prev f_next in
+      let ratio = f_average ⊘ turning rule f_prev f_next in
       let whole = unsplit x_prev x_next f_prev f_next f_average prev_primitive in
-      cond (passes is_safe f_prev f_next f_average)
-      (cond (ratio_passes is_safe any ratio)
-      (split x_prev x_next f_prev f_next f_average prev_primitive (turning is_safe f_prev f_next))
-      (cond (is_safe && le ratio narrow) (level x_prev x_next f_average prev_primitive) whole))
+      cond (passes rule f_prev f_next f_average)
+      (cond (ratio_passes rule ratio)
+      (split x_prev x_next f_prev f_next f_average prev_primitive (turning rule f_prev f_next))
+      (cond (flattens rule ratio) (level x_prev x_next f_average prev_primitive) whole))
       whole
 
 module _ (s : QuadraticMin) where

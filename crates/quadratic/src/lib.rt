@@ -1,4 +1,4 @@
-// The two quadratic kinds of section.
+// The two quadratic kinds of section. Their names, fields and parameters carry over from the original.
 #![tactic(auto)]
 
 mod parabola;

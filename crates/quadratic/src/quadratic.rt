@@ -2,7 +2,7 @@
 ghost use Rattle.std.specs.Prelude.{◌≡◌};
 ghost use Rattle.quadratic.specs.Quadratic.{new, value, primitive, f_next};
 
-use crate::parabola::{a_of, b_of, under};
+use crate::parabola::Parabola;
 
 #[derive(Clone, Copy)]
 pub struct Quadratic {
@@ -26,12 +26,13 @@ impl Quadratic {
     ) -> Self
         ensures { result ≡ new x_prev x_next f_prev f_next f_average prev_primitive }
     {
+        let Parabola { a, b, c } = Parabola::through(f_prev, f_next, f_average);
         Self {
             x_prev,
             x_scaling: x_next - x_prev,
-            a: a_of(f_prev, f_next, f_average),
-            b: b_of(f_prev, f_next, f_average),
-            c: f_prev,
+            a,
+            b,
+            c,
             f_next,
             prev_primitive,
         }
@@ -48,14 +49,12 @@ impl Quadratic {
         ensures { result ≡ primitive self x }
     {
         let x_val = (x - self.x_prev) / self.x_scaling;
-        under(
-            self.prev_primitive,
-            self.x_scaling,
-            self.a,
-            self.b,
-            self.c,
-            x_val,
-        )
+        let parabola = Parabola {
+            a: self.a,
+            b: self.b,
+            c: self.c,
+        };
+        parabola.under(self.prev_primitive, self.x_scaling, x_val)
     }
 
     pub fn f_next(self) -> f64

@@ -1,4 +1,5 @@
 -- What an accepted curve says of the lengths, what a verdict makes of the section that was found, and an answer in numbers.
+use Rattle.std.specs.Prelude.{Err, Ok, Option, Some}
 use Prim.Native.Nat.{ℕ, ◌-◌, ◌*◌, ◌≤◌}
 use native.Mathlib.Nat.{le_refl}
 use native.Mathlib.Omega.{arith}
@@ -15,18 +16,13 @@ use Rattle.numbers.specs.Words.{zero, finite}
 use Rattle.numbers.proofs.Every.{all_at}
 use Rattle.numbers.proofs.Nan.{not_nan}
 use Rattle.numbers.proofs.Ways.{or_none}
-use Rattle.refusal.specs.Refusal.{first, number}
-use Rattle.record.specs.declared.reading.Found.{Found}
-use Rattle.record.specs.declared.reading.Found.TheVariants as found
+use Rattle.refusal.specs.Refusal.{first, number, Verdict}
 use Rattle.refusal.specs.declared.Refusal.{Refusal}
-use Rattle.refusal.specs.declared.Verdict.{Verdict}
-use Rattle.refusal.specs.declared.Verdict.TheVariants as verdict
 use Rattle.refusal.proofs.First.{passed}
 use Rattle.table.specs.Check.{all_finite, rising}
 use Rattle.table.specs.Sound.{Room}
 use Rattle.table.specs.Table.{at}
 use Rattle.query.specs.Query.{curve_tests, covered_of, answer_by}
-use Rattle.query.specs.declared.answer.Covered.TheVariants as covered
 
 -- knots that pass the tests of a query, and records that reach for them
 pub record Reaches (x : List Float) (tags slots : ℕ) : Type 0 where
@@ -36,7 +32,7 @@ pub record Reaches (x : List Float) (tags slots : ℕ) : Type 0 where
   pub room : Room (length x) (length x) tags slots
 
 -- a curve that passed its tests
-pub reached : (x : List Float) (tags slots : ℕ) → first (curve_tests x tags slots) ≡ verdict.Accepted → Reaches x tags slots
+pub reached : (x : List Float) (tags slots : ℕ) → first (curve_tests x tags slots) ≡ Ok tt → Reaches x tags slots
 reached x tags slots h =
     let n = length x in
     let (low, (numbers, (up, (high, (enough, _))))) = passed (curve_tests x tags slots) h in
@@ -48,14 +44,14 @@ reached x tags slots h =
       room = record { high = ltb-false 4096 n high; in_nodes = le_refl n; in_tags = ltb-false tags (n - 1) in_tags; in_slots = ltb-false slots (slot_count * (n - 1)) in_slots };
     }
 
-pub found_here : (v : Verdict) (s : Section) (f : Found) → v ≡ verdict.Accepted → f ≡ found.Section s → covered.Section s ≡ covered_of v f
+pub found_here : (v : Verdict) (s : Section) (f : Option Section) → v ≡ Ok tt → f ≡ Some s → Ok s ≡ covered_of v f
 found_here v s f e g = rw (e, g)
 
 -- an answer in numbers, by what refuses it
-pub told_number : (v w : Verdict) (n m : Float) → v ≡ w → v ≡ verdict.Accepted → n ≡ m → record { refusal = 0; answer = n } ≡ answer_by w m
+pub told_number : (v w : Verdict) (n m : Float) → v ≡ w → v ≡ Ok tt → n ≡ m → record { refusal = 0; answer = n } ≡ answer_by w m
 told_number v w n m e f g = rw (sym e ∙ f, g)
 
-pub told_refusal : (v w : Verdict) (r : Refusal) (n : ℕ) (m : Float) → v ≡ w → v ≡ verdict.Refused r → n ≡ number r → record { refusal = n; answer = zero } ≡ answer_by w m
+pub told_refusal : (v w : Verdict) (r : Refusal) (n : ℕ) (m : Float) → v ≡ w → v ≡ Err r → n ≡ number r → record { refusal = n; answer = zero } ≡ answer_by w m
 told_refusal v w r n m e f g = rw (sym e ∙ f, g)
 
 -- the first knot is a number

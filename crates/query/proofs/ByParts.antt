@@ -1,4 +1,5 @@
 -- 02, K1. A strip by its parts: what refuses it, and its number where nothing does.
+use Rattle.std.specs.Prelude.{Err, Ok}
 use Prim.Native.Nat.{ℕ, ◌<◌}
 use mathlib.Core.Bool.{Bool, true, false, cond}
 use mathlib.Core.List.{List}
@@ -11,44 +12,37 @@ use Rattle.numbers.specs.Words.{◌⊖◌, ◌⊘◌}
 use Rattle.numbers.proofs.Overlay.{overlay_same}
 use Rattle.numbers.proofs.Ways.{never}
 use Rattle.section.specs.Section.{primitive}
-use Rattle.refusal.specs.Refusal.{first, and_then}
+use Rattle.refusal.specs.Refusal.{first, and_then, Verdict}
 use Rattle.refusal.specs.declared.Refusal.{Refusal}
 use Rattle.refusal.specs.declared.Refusal.TheVariants.{StripEndsNotRising}
-use Rattle.refusal.specs.declared.Verdict.{Verdict}
-use Rattle.refusal.specs.declared.Verdict.TheVariants.{Accepted, Refused}
 use Rattle.refusal.proofs.First.{first_append}
 use Rattle.curve.specs.declared.curve.Curve.{Curve}
-use Rattle.query.specs.Many.{or_next, many_tests, of_all, formula_at, many_by}
-use Rattle.query.specs.Query.{curve_tests, point_tests, covering, covered_of, covered_at, ask, number_in, verdict_in}
+use Rattle.query.specs.Many.{or_next, many_tests, of_all, formula_at, many_by, ManyAnswer}
+use Rattle.query.specs.Query.{curve_tests, point_tests, covering, covered_of, covered_at, ask, number_in, verdict_in, Covered, QueryAnswer}
 use Rattle.query.specs.Strip.{strip_of, total_to, strip_at, strips_verdict, strips_after, strips_outcome}
-use Rattle.query.specs.declared.answer.Covered.{Covered}
-use Rattle.query.specs.declared.answer.Covered.TheVariants as covered
-use Rattle.query.specs.declared.answer.QueryAnswer.{QueryAnswer}
-use Rattle.query.specs.declared.answer.QueryAnswer.TheVariants as query-answer
-use Rattle.query.specs.declared.answer.ManyAnswer.{ManyAnswer}
 use Rattle.query.proofs.Covering.{is_number, refused_same}
 
 abbrev accepts : Verdict → Bool
-accepts Accepted = true
-accepts (Refused r) = false
+accepts (Ok tt) = true
+accepts (Err r) = false
 
 -- what follows where nothing refuses a strip: both ends got numbers, and its own is their difference over the length
 abbrev Parts : Float → Float → QueryAnswer → QueryAnswer → QueryAnswer → Type 0
 Parts a b p q strip = (is_number p ≡ true) × (is_number q ≡ true) × (number_in strip ≡ (number_in q ⊖ number_in p) ⊘ (b ⊖ a))
 
 in_order : (a b : Float) (p q : Marked) (l : Bool) →
-    let strip = cond l (query-answer.Number (mark ((q.number ⊖ p.number) ⊘ (b ⊖ a)))) (query-answer.Refused StripEndsNotRising) in
-    accepts (verdict_in strip) ≡ true → Parts a b (query-answer.Number p) (query-answer.Number q) strip
+    let strip = cond l (Ok (mark ((q.number ⊖ p.number) ⊘ (b ⊖ a)))) (Err StripEndsNotRising) in
+    accepts (verdict_in strip) ≡ true → Parts a b (Ok p) (Ok q) strip
 in_order a b p q true h = (refl, refl, refl)
 in_order a b p q false h = never h refl
 
 parts : (a b : Float) (p q : QueryAnswer) → accepts (verdict_in (strip_of a b p q)) ≡ true → Parts a b p q (strip_of a b p q)
-parts a b (query-answer.Refused r) q h = never h refl
-parts a b (query-answer.Number p) (query-answer.Refused r) h = never h refl
-parts a b (query-answer.Number p) (query-answer.Number q) h = in_order a b p q (lt a b) h
+parts a b (Err r) q h = never h refl
+parts a b (Ok p) (Err r) h = never h refl
+parts a b (Ok p) (Ok q) h = in_order a b p q (lt a b) h
 
 module _ (x : List Float) (curve : Curve) (tags : List ℕ) (slots : List Float) (a b : Float) where
-  module _ (taken : verdict_in (strip_at x curve tags slots a b) ≡ Accepted) where
+  module _ (taken : verdict_in (strip_at x curve tags slots a b) ≡ Ok tt) where
     pub by_parts : Parts a b (total_to x curve tags slots a) (total_to x curve tags slots b) (strip_at x curve tags slots a b)
     unfolding strip_at
     by_parts = parts a b (total_to x curve tags slots a) (total_to x curve tags slots b) (ap accepts taken)
@@ -63,11 +57,11 @@ module _ (x : List Float) (curve : Curve) (tags : List ℕ) (slots : List Float)
   by_totals p q r e f h = h ∙ ap (λ (k : QueryAnswer). strip_of a b k q) e ∙ ap (strip_of a b (total_to x curve tags slots a)) f
 
   -- what refuses the curve refuses the strip
-  pub curve_refused : (r : Refusal) → first (curve_tests x (length tags) (length slots)) ≡ Refused r → query-answer.Refused r ≡ strip_at x curve tags slots a b
+  pub curve_refused : (r : Refusal) → first (curve_tests x (length tags) (length slots)) ≡ Err r → Err r ≡ strip_at x curve tags slots a b
   unfolding strip_at
   curve_refused r h = sym (ap (λ (k : Covered). strip_of a b (ask (λ s. primitive s a) k) (total_to x curve tags slots b)) refused_here)
     where
-      refused_here : covered_at x curve tags slots a ≡ covered.Refused r
+      refused_here : covered_at x curve tags slots a ≡ Err r
       refused_here =
           ap (λ (v : Verdict). covered_of v (covering x curve tags slots a))
           (first_append (curve_tests x (length tags) (length slots)) (point_tests x curve a) ∙ ap (λ (v : Verdict). and_then v (first (point_tests x curve a))) h)

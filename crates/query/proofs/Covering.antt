@@ -1,4 +1,7 @@
 -- What a query gets from a curve that passed its tests, by what is asked of the query and by the record that answers it.
+use Rattle.query.specs.declared.answer.ManyRefusal.TheVariants as many
+use Rattle.numbers.specs.declared.Marked.{Marked}
+use Rattle.std.specs.Prelude.{Err, None, Ok, Option, Some}
 use Prim.Native.Nat.{ℕ, zero, suc, ◌+◌, ◌-◌, ◌≤◌, ◌<◌}
 use native.Mathlib.Omega.{arith}
 use native.Mathlib.Nat.{eq-or-lt_of_le, le_of_suc-le-suc}
@@ -14,67 +17,57 @@ use Rattle.numbers.specs.Every.{all_below}
 use Rattle.numbers.proofs.Every.{all_at}
 use Rattle.numbers.proofs.Ways.{never, lt_or_le}
 use Rattle.section.specs.declared.section.Section.{Section}
-use Rattle.refusal.specs.Refusal.{first, and_then}
+use Rattle.refusal.specs.Refusal.{first, and_then, Verdict}
 use Rattle.record.specs.Number.{answer_in, or_zero}
 use Rattle.record.specs.Reading.{is_section, record_at}
-use Rattle.record.specs.declared.number.Answer.{Answer}
-use Rattle.record.specs.declared.reading.Found.{Found}
-use Rattle.record.specs.declared.reading.Found.TheVariants as found
 use Rattle.refusal.specs.declared.Refusal.{Refusal}
-use Rattle.refusal.specs.declared.Verdict.{Verdict}
-use Rattle.refusal.specs.declared.Verdict.TheVariants.{Accepted, Refused}
 use Rattle.refusal.proofs.First.{both_accept, first_append}
 use Rattle.table.specs.Table.{at}
 use Rattle.curve.specs.declared.curve.Curve.{Curve}
-use Rattle.query.specs.Query.{curve_tests, point_tests, query_tests, place_of, tail_section, covering, covered_of, covered_at, ask, number_in, verdict_in}
-use Rattle.query.specs.declared.answer.QueryAnswer.{QueryAnswer}
-use Rattle.query.specs.declared.answer.QueryAnswer.TheVariants as query-answer
-use Rattle.query.specs.declared.answer.Covered.{Covered}
+use Rattle.query.specs.Query.{curve_tests, point_tests, query_tests, place_of, tail_section, covering, covered_of, covered_at, ask, number_in, verdict_in, QueryAnswer, Covered}
 use Rattle.query.proofs.Walk.{place_le}
 use Rattle.query.specs.Steps.{asked_of}
-use Rattle.query.specs.Many.{or_next, at_place, first_refused, ask_at, formula_at}
-use Rattle.query.specs.declared.answer.ManyAnswer.{ManyAnswer}
-use Rattle.query.specs.declared.answer.ManyAnswer.TheVariants as many
+use Rattle.query.specs.Many.{or_next, at_place, first_refused, ask_at, formula_at, ManyAnswer}
 
 -- ---- the first refusal of many
 abbrev pub is_answered : ManyAnswer → Bool
-is_answered many.Answered = true
-is_answered (many.Refused r) = false
-is_answered (many.RefusedAt r k) = false
+is_answered (Ok tt) = true
+is_answered (Err (many.Whole r)) = false
+is_answered (Err (many.Query r k)) = false
 
 abbrev is_placed : ManyAnswer → Bool
-is_placed (many.RefusedAt r k) = true
-is_placed (many.Refused r) = false
-is_placed many.Answered = false
+is_placed (Err (many.Query r k)) = true
+is_placed (Err (many.Whole r)) = false
+is_placed (Ok tt) = false
 
 abbrev place_in : ℕ → ManyAnswer → ℕ
-place_in d many.Answered = d
-place_in d (many.Refused r) = d
-place_in d (many.RefusedAt r k) = k
+place_in d (Ok tt) = d
+place_in d (Err (many.Whole r)) = d
+place_in d (Err (many.Query r k)) = k
 
 abbrev refusal_in : Refusal → ManyAnswer → Refusal
-refusal_in d many.Answered = d
-refusal_in d (many.Refused r) = r
-refusal_in d (many.RefusedAt r k) = r
+refusal_in d (Ok tt) = d
+refusal_in d (Err (many.Whole r)) = r
+refusal_in d (Err (many.Query r k)) = r
 
-pub both_answered : (v w : ManyAnswer) → or_next v w ≡ many.Answered → (v ≡ many.Answered) × (w ≡ many.Answered)
-both_answered many.Answered w h = (refl, h)
-both_answered (many.Refused r) w h = never (ap is_answered h) refl
-both_answered (many.RefusedAt r k) w h = never (ap is_answered h) refl
+pub both_answered : (v w : ManyAnswer) → or_next v w ≡ Ok tt → (v ≡ Ok tt) × (w ≡ Ok tt)
+both_answered (Ok tt) w h = (refl, h)
+both_answered (Err (many.Whole r)) w h = never (ap is_answered h) refl
+both_answered (Err (many.Query r k)) w h = never (ap is_answered h) refl
 
-accepted_here : (n : ℕ) (v : Verdict) → at_place n v ≡ many.Answered → v ≡ Accepted
-accepted_here n Accepted h = refl
-accepted_here n (Refused r) h = never (ap is_answered h) refl
+accepted_here : (n : ℕ) (v : Verdict) → at_place n v ≡ Ok tt → v ≡ Ok tt
+accepted_here n (Ok tt) h = refl
+accepted_here n (Err r) h = never (ap is_answered h) refl
 
-pub none_refused : (f : ℕ → Verdict) → first_refused 0 f ≡ many.Answered
+pub none_refused : (f : ℕ → Verdict) → first_refused 0 f ≡ Ok tt
 unfolding first_refused
 none_refused f = refl
 
-pub one_more : (n : ℕ) (f : ℕ → Verdict) → first_refused n f ≡ many.Answered → f n ≡ Accepted → first_refused (n + 1) f ≡ many.Answered
+pub one_more : (n : ℕ) (f : ℕ → Verdict) → first_refused n f ≡ Ok tt → f n ≡ Ok tt → first_refused (n + 1) f ≡ Ok tt
 unfolding first_refused
 one_more n f h e = rw (add-one n, h, e) refl
 
-pub all_accepted : (n : ℕ) (f : ℕ → Verdict) → first_refused n f ≡ many.Answered → (k : ℕ) → k < n → f k ≡ Accepted
+pub all_accepted : (n : ℕ) (f : ℕ → Verdict) → first_refused n f ≡ Ok tt → (k : ℕ) → k < n → f k ≡ Ok tt
 unfolding first_refused
 all_accepted zero f h k l = absurd (omega arith)
 all_accepted (suc n) f h k l =
@@ -82,14 +75,14 @@ all_accepted (suc n) f h k l =
     ⊎_elim (λ (e : k ≡ n). ap f e ∙ accepted_here n (f n) p.1) (λ (g : k < n). all_accepted n f p.0 k g) (eq-or-lt_of_le (le_of_suc-le-suc l))
 
 -- where each is accepted, none is refused
-pub every : (n : ℕ) (f : ℕ → Verdict) → ((k : ℕ) → k < n → f k ≡ Accepted) → first_refused n f ≡ many.Answered
+pub every : (n : ℕ) (f : ℕ → Verdict) → ((k : ℕ) → k < n → f k ≡ Ok tt) → first_refused n f ≡ Ok tt
 unfolding first_refused
 every zero f h = refl
 every (suc n) f h =
     ap (λ (v : ManyAnswer). or_next v (at_place n (f n))) (every n f (λ k l. h k (omega (arith, l)))) ∙ ap (at_place n) (h n (omega arith))
 
 -- the first that is refused speaks for all, and says which it is
-pub one_refused : (n k : ℕ) (f : ℕ → Verdict) (r : Refusal) → k < n → first_refused k f ≡ many.Answered → f k ≡ Refused r → many.RefusedAt r k ≡ first_refused n f
+pub one_refused : (n k : ℕ) (f : ℕ → Verdict) (r : Refusal) → k < n → first_refused k f ≡ Ok tt → f k ≡ Err r → Err (many.Query r k) ≡ first_refused n f
 unfolding first_refused
 one_refused zero k f r l h e = absurd (omega arith)
 one_refused (suc n) k f r l h e =
@@ -104,26 +97,25 @@ one_refused (suc n) k f r l h e =
 module _ (f : ℕ → Verdict) (r : Refusal) (k : ℕ) where
   pub record Named (n : ℕ) : Type 0 where
     pub below : k < n
-    pub before : first_refused k f ≡ many.Answered
-    pub own : f k ≡ Refused r
+    pub before : first_refused k f ≡ Ok tt
+    pub own : f k ≡ Err r
 
-  named_step : (n : ℕ) (v : ManyAnswer) (w : Verdict) → first_refused n f ≡ v → f n ≡ w → or_next v (at_place n w) ≡ many.RefusedAt r k → (v ≡ many.RefusedAt r k → Named n) → Named (suc n)
-  named_step n many.Answered Accepted e g h later = never refl (ap is_answered h)
-  named_step n many.Answered (Refused q) e g h later =
+  named_step : (n : ℕ) (v : ManyAnswer) (w : Verdict) → first_refused n f ≡ v → f n ≡ w → or_next v (at_place n w) ≡ Err (many.Query r k) → (v ≡ Err (many.Query r k) → Named n) → Named (suc n)
+  named_step n (Ok u) (Ok tt) e g h later = never refl (ap is_answered h)
+  named_step n (Ok u) (Err q) e g h later =
       let same : n ≡ k = ap (place_in n) h in
       let why : q ≡ r = ap (refusal_in r) h in
-      record { below = omega (arith, same); before = ap (λ (j : ℕ). first_refused j f) (sym same) ∙ e; own = ap f (sym same) ∙ g ∙ ap Refused why }
-  named_step n (many.Refused q) w e g h later = let m = later h in record { below = omega (arith, m.below); before = m.before; own = m.own }
-  named_step n (many.RefusedAt q j) w e g h later = let m = later h in record { below = omega (arith, m.below); before = m.before; own = m.own }
+      record { below = omega (arith, same); before = ap (λ (j : ℕ). first_refused j f) (sym same) ∙ e; own = ap f (sym same) ∙ g ∙ ap Err why }
+  named_step n (Err q) w e g h later = let m = later h in record { below = omega (arith, m.below); before = m.before; own = m.own }
 
-  pub named : (n : ℕ) → first_refused n f ≡ many.RefusedAt r k → Named n
+  pub named : (n : ℕ) → first_refused n f ≡ Err (many.Query r k) → Named n
   unfolding first_refused
   named zero h = never refl (ap is_answered h)
   named (suc n) h = named_step n (first_refused n f) (f n) refl refl h (λ g. named n g)
 
 -- ---- blocks of many
-module _ (f : ℕ → Verdict) (from m : ℕ) (done : first_refused from f ≡ many.Answered) where
-  pub block_answered : first_refused m (λ j. f (from + j)) ≡ many.Answered → first_refused (from + m) f ≡ many.Answered
+module _ (f : ℕ → Verdict) (from m : ℕ) (done : first_refused from f ≡ Ok tt) where
+  pub block_answered : first_refused m (λ j. f (from + j)) ≡ Ok tt → first_refused (from + m) f ≡ Ok tt
   block_answered h =
       every (from + m) f
       (λ k l.
@@ -135,20 +127,20 @@ module _ (f : ℕ → Verdict) (from m : ℕ) (done : first_refused from f ≡ m
       (lt_or_le k from))
 
 -- a query that a block refuses is the first of all that is
-pub block_refused : (f : ℕ → Verdict) (n from m : ℕ) → first_refused from f ≡ many.Answered → from + m ≤ n → (r : Refusal) (k : ℕ) → first_refused m (λ j. f (from + j)) ≡ many.RefusedAt r k →
-    many.RefusedAt r (from + k) ≡ first_refused n f
+pub block_refused : (f : ℕ → Verdict) (n from m : ℕ) → first_refused from f ≡ Ok tt → from + m ≤ n → (r : Refusal) (k : ℕ) → first_refused m (λ j. f (from + j)) ≡ Err (many.Query r k) →
+    Err (many.Query r (from + k)) ≡ first_refused n f
 block_refused f n from m done l r k h =
     let g = named (λ j. f (from + j)) r k m h in
     one_refused n (from + k) f r (omega (arith, g.below, l)) (block_answered f from k done g.before) g.own
 
 -- none of many is refused as all are
-as_one_of_many : (n : ℕ) (v : ManyAnswer) (w : Verdict) (r : Refusal) {A : Type 0} → or_next v (at_place n w) ≡ many.Refused r → ((q : Refusal) → v ≡ many.Refused q → A) → A
-as_one_of_many n many.Answered Accepted r h later = never refl (ap is_answered h)
-as_one_of_many n many.Answered (Refused q) r h later = never refl (ap is_placed h)
-as_one_of_many n (many.Refused q) w r h later = later q refl
-as_one_of_many n (many.RefusedAt q j) w r h later = never refl (ap is_placed h)
+as_one_of_many : (n : ℕ) (v : ManyAnswer) (w : Verdict) (r : Refusal) {A : Type 0} → or_next v (at_place n w) ≡ Err (many.Whole r) → ((q : Refusal) → v ≡ Err (many.Whole q) → A) → A
+as_one_of_many n (Ok u) (Ok tt) r h later = never refl (ap is_answered h)
+as_one_of_many n (Ok u) (Err q) r h later = never refl (ap is_placed h)
+as_one_of_many n (Err (many.Whole q)) w r h later = later q refl
+as_one_of_many n (Err (many.Query q j)) w r h later = never refl (ap is_placed h)
 
-pub not_as_all : (f : ℕ → Verdict) (n : ℕ) (r : Refusal) {A : Type 0} → first_refused n f ≡ many.Refused r → A
+pub not_as_all : (f : ℕ → Verdict) (n : ℕ) (r : Refusal) {A : Type 0} → first_refused n f ≡ Err (many.Whole r) → A
 unfolding first_refused
 not_as_all f zero r h = never refl (ap is_answered h)
 not_as_all f (suc n) r h = as_one_of_many n (first_refused n f) (f n) r h (λ q g. not_as_all f n q g)
@@ -173,41 +165,41 @@ part_same f qs from m l =
 
 -- an answer that is a number, finite or not
 abbrev pub is_number : QueryAnswer → Bool
-is_number (query-answer.Number m) = true
-is_number (query-answer.Refused r) = false
+is_number (Ok m) = true
+is_number (Err r) = false
 
 abbrev accepts : Verdict → Bool
-accepts Accepted = true
-accepts (Refused r) = false
+accepts (Ok tt) = true
+accepts (Err r) = false
 
-pub accepted_number : (k : QueryAnswer) → verdict_in k ≡ Accepted → is_number k ≡ true
-accepted_number (query-answer.Number m) h = refl
-accepted_number (query-answer.Refused r) h = never (ap accepts h) refl
+pub accepted_number : (k : QueryAnswer) → verdict_in k ≡ Ok tt → is_number k ≡ true
+accepted_number (Ok m) h = refl
+accepted_number (Err r) h = never (ap accepts h) refl
 
-either_legal : (b : Bool) (s : Section) (f : Found) → is_section f ≡ true → is_section (cond b (found.Section s) f) ≡ true
+either_legal : (b : Bool) (s : Section) (f : Option Section) → is_section f ≡ true → is_section (cond b (Some s) f) ≡ true
 either_legal true s f h = refl
 either_legal false s f h = h
 
 -- a query that is not refused passed its tests
-pub own_accepted : (f : Section → Float) (v : Verdict) (k : Found) → verdict_in (ask f (covered_of v k)) ≡ Accepted → v ≡ Accepted
-own_accepted f Accepted k h = refl
-own_accepted f (Refused r) k h = never (ap accepts h) refl
+pub own_accepted : (f : Section → Float) (v : Verdict) (k : Option Section) → verdict_in (ask f (covered_of v k)) ≡ Ok tt → v ≡ Ok tt
+own_accepted f (Ok tt) k h = refl
+own_accepted f (Err r) k h = never (ap accepts h) refl
 
 -- what is asked of a query that passed its tests, by what the section that covers it answers
-asked_of_found : (f : Section → Float) (k : Found) → asked_of (answer_in f k) ≡ ask f (covered_of Accepted k)
-asked_of_found f (found.Section s) = refl
-asked_of_found f found.Illegal = refl
+asked_of_found : (f : Section → Float) (k : Option Section) → asked_of (answer_in f k) ≡ ask f (covered_of (Ok tt) k)
+asked_of_found f (Some s) = refl
+asked_of_found f None = refl
 
-pub answered : (f : Section → Float) (v : Verdict) (k : Found) (n : Answer) → v ≡ Accepted → n ≡ answer_in f k → asked_of n ≡ ask f (covered_of v k)
+pub answered : (f : Section → Float) (v : Verdict) (k : Option Section) (n : Option Marked) → v ≡ Ok tt → n ≡ answer_in f k → asked_of n ≡ ask f (covered_of v k)
 answered f v k n e h = ap asked_of h ∙ asked_of_found f k ∙ ap (λ (u : Verdict). ask f (covered_of u k)) (sym e)
 
-pub not_answered : (f : Section → Float) (v : Verdict) (r : Refusal) (k : Found) → v ≡ Refused r → query-answer.Refused r ≡ ask f (covered_of v k)
+pub not_answered : (f : Section → Float) (v : Verdict) (r : Refusal) (k : Option Section) → v ≡ Err r → Err r ≡ ask f (covered_of v k)
 not_answered f v r k e = rw e refl
 
-number_of_found : (f : Section → Float) (v : Verdict) (k : Found) → is_number (ask f (covered_of v k)) ≡ true → number_in (ask f (covered_of v k)) ≡ or_zero (answer_in f k)
-number_of_found f Accepted (found.Section s) h = refl
-number_of_found f Accepted found.Illegal h = refl
-number_of_found f (Refused r) k h = never h refl
+number_of_found : (f : Section → Float) (v : Verdict) (k : Option Section) → is_number (ask f (covered_of v k)) ≡ true → number_in (ask f (covered_of v k)) ≡ or_zero (answer_in f k)
+number_of_found f (Ok tt) (Some s) h = refl
+number_of_found f (Ok tt) None h = refl
+number_of_found f (Err r) k h = never h refl
 
 module _ (x : List Float) (curve : Curve) (tags : List ℕ) (slots : List Float) (q : Float) where
   -- every record legal, and so the one that answers
@@ -217,7 +209,7 @@ module _ (x : List Float) (curve : Curve) (tags : List ℕ) (slots : List Float)
       either_legal (le (at x (length x - 1)) q) (tail_section curve) (record_at tags slots (place_of x q))
       (all_at (length x - 1) (λ i. is_section (record_at tags slots i)) h (place_of x q) (omega (arith, l, place_le x q)))
 
-  pub from_the_last : le (at x (length x - 1)) q ≡ true → covering x curve tags slots q ≡ found.Section (tail_section curve)
+  pub from_the_last : le (at x (length x - 1)) q ≡ true → covering x curve tags slots q ≡ Some (tail_section curve)
   unfolding covering
   from_the_last h = rw h refl
 
@@ -226,20 +218,20 @@ module _ (x : List Float) (curve : Curve) (tags : List ℕ) (slots : List Float)
   before_the_last h = rw h refl
 
   -- a query that passed its tests is of a curve that did
-  pub of_the_curve : first (query_tests x curve (length tags) (length slots) q) ≡ Accepted → first (curve_tests x (length tags) (length slots)) ≡ Accepted
+  pub of_the_curve : first (query_tests x curve (length tags) (length slots) q) ≡ Ok tt → first (curve_tests x (length tags) (length slots)) ≡ Ok tt
   of_the_curve h =
       (both_accept (first (curve_tests x (length tags) (length slots))) (first (point_tests x curve q))
       (sym (first_append (curve_tests x (length tags) (length slots)) (point_tests x curve q)) ∙ h)).0
 
   -- the curve's tests passed, only the query's are left
-  pub of_the_point : first (curve_tests x (length tags) (length slots)) ≡ Accepted →
+  pub of_the_point : first (curve_tests x (length tags) (length slots)) ≡ Ok tt →
       covered_at x curve tags slots q ≡ covered_of (first (point_tests x curve q)) (covering x curve tags slots q)
   of_the_point h =
       ap (λ (v : Verdict). covered_of v (covering x curve tags slots q))
       (first_append (curve_tests x (length tags) (length slots)) (point_tests x curve q) ∙ ap (λ (v : Verdict). and_then v (first (point_tests x curve q))) h)
 
   -- so what is asked of it is told by the query's own tests and by the section that covers it
-  pub asked_of_point : (f : Section → Float → Float) → first (curve_tests x (length tags) (length slots)) ≡ Accepted →
+  pub asked_of_point : (f : Section → Float → Float) → first (curve_tests x (length tags) (length slots)) ≡ Ok tt →
       ask (λ (s : Section). f s q) (covered_of (first (point_tests x curve q)) (covering x curve tags slots q)) ≡ ask_at f x curve tags slots q
   asked_of_point f h = ap (λ (k : Covered). ask (λ (s : Section). f s q) k) (sym (of_the_point h))
 

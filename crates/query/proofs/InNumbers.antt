@@ -1,43 +1,39 @@
 -- The contracts in the documents' numbers: a query is refused by the first of 4, 5, 7, 10, 11, 12, 13, then by 15 for the record that covers it, and then by
 -- 21 exactly where its formula's number is not finite.
+use Rattle.std.specs.Prelude.{Err, None, Ok, Option, Some}
 use mathlib.Core.Bool.{cond}
 use mathlib.Core.Path.{◌≡◌, refl, ap, ◌∙◌}
 use lib.Ieee.{Float}
 use lib.ListN.{length}
 use Rattle.numbers.specs.OneOutcome.{Follows}
 use Rattle.numbers.specs.Words.{finite}
-use Rattle.refusal.specs.Refusal.{first, number, verdict_number, and_then}
+use Rattle.refusal.specs.Refusal.{first, number, verdict_number, and_then, Verdict}
 use Rattle.refusal.specs.declared.Refusal.TheVariants.{RecordNotLegal, NotFinite, DerivativeAsked}
-use Rattle.refusal.specs.declared.Verdict.{Verdict}
-use Rattle.refusal.specs.declared.Verdict.TheVariants as verdict
 use Rattle.section.specs.Section.{value, primitive}
 use Rattle.section.specs.declared.section.Section.{Section}
-use Rattle.record.specs.declared.reading.Found.{Found}
-use Rattle.record.specs.declared.reading.Found.TheVariants as found
-use Rattle.query.specs.Query.{query_tests, covering, covered_of, ask, number_in, verdict_in, answer_by, answer_in_numbers}
-use Rattle.query.specs.declared.answer.QueryAnswer.{QueryAnswer}
+use Rattle.query.specs.Query.{query_tests, covering, covered_of, ask, number_in, verdict_in, answer_by, answer_in_numbers, QueryAnswer}
 use Rattle.query.proofs.answer.derivative.Reads as derivative
 use Rattle.query.proofs.single.value.Reads as value-at
 use Rattle.query.proofs.single.primitive.Reads as primitive-at
 
 -- 15, then 21, or nothing
 abbrev pub finitely : Float → Verdict
-finitely v = cond (finite v) verdict.Accepted (verdict.Refused NotFinite)
+finitely v = cond (finite v) (Ok tt) (Err NotFinite)
 
-abbrev pub legally : (Section → Float) → Found → Verdict
-legally f (found.Section s) = finitely (f s)
-legally f found.Illegal = verdict.Refused RecordNotLegal
+abbrev pub legally : (Section → Float) → Option Section → Verdict
+legally f (Some s) = finitely (f s)
+legally f None = Err RecordNotLegal
 
 by_verdict : (v : Verdict) (n : Float) → (answer_by v n).refusal ≡ verdict_number v
-by_verdict verdict.Accepted n = refl
-by_verdict (verdict.Refused r) n = refl
+by_verdict (Ok tt) n = refl
+by_verdict (Err r) n = refl
 
-asked : (f : Section → Float) (v : Verdict) (k : Found) → verdict_in (ask f (covered_of v k)) ≡ and_then v (legally f k)
-asked f verdict.Accepted (found.Section s) = refl
-asked f verdict.Accepted found.Illegal = refl
-asked f (verdict.Refused r) k = refl
+asked : (f : Section → Float) (v : Verdict) (k : Option Section) → verdict_in (ask f (covered_of v k)) ≡ and_then v (legally f k)
+asked f (Ok tt) (Some s) = refl
+asked f (Ok tt) None = refl
+asked f (Err r) k = refl
 
-told : (f : Section → Float) (v : Verdict) (k : Found) (r : QueryAnswer) → r ≡ ask f (covered_of v k) → (answer_in_numbers r).refusal ≡ verdict_number (and_then v (legally f k))
+told : (f : Section → Float) (v : Verdict) (k : Option Section) (r : QueryAnswer) → r ≡ ask f (covered_of v k) → (answer_in_numbers r).refusal ≡ verdict_number (and_then v (legally f k))
 told f v k r p =
     ap (λ (k : QueryAnswer). (answer_in_numbers k).refusal) p ∙ by_verdict (verdict_in (ask f (covered_of v k))) (number_in (ask f (covered_of v k))) ∙ ap verdict_number (asked f v k)
 

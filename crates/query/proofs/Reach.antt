@@ -1,4 +1,5 @@
 -- A curve of ordinary size: every point that it may be asked for gets a finite number, and so does every strip whose ends are apart.
+use Rattle.std.specs.Prelude.{Err, None, Ok, Option, Some}
 use Prim.Native.Nat.{ℕ, ◌-◌, ◌*◌, ◌≤◌}
 use native.Mathlib.Omega.{arith}
 use mathlib.Core.Bool.{Bool, true, false, cond, ◌&&◌}
@@ -23,23 +24,16 @@ use Rattle.section.proofs.Ordinary.{Constant, constant_value, constant_primitive
 use Rattle.record.specs.Legal.{legal_record}
 use Rattle.record.specs.Ordinary.{ordinary_record}
 use Rattle.record.specs.Reading.{is_section, read_section, record_at}
-use Rattle.record.specs.declared.reading.Found.{Found}
-use Rattle.record.specs.declared.reading.Found.TheVariants as found
 use Rattle.record.proofs.FiniteAnswers.{ordinary_value, ordinary_primitive}
 use Rattle.record.proofs.Legal.{legal_is_read}
-use Rattle.refusal.specs.Refusal.{first}
-use Rattle.refusal.specs.declared.Verdict.{Verdict}
-use Rattle.refusal.specs.declared.Verdict.TheVariants.{Accepted, Refused}
+use Rattle.refusal.specs.Refusal.{first, Verdict}
 use Rattle.refusal.specs.declared.Refusal.TheVariants.{NotFinite, StripEndsNotRising}
 use Rattle.table.specs.Table.{at}
 use Rattle.curve.specs.declared.curve.Curve.{Curve}
-use Rattle.query.specs.Query.{curve_tests, point_tests, outside, place_of, tail_section, covering, covered_of, ask, verdict_in}
+use Rattle.query.specs.Query.{curve_tests, point_tests, outside, place_of, tail_section, covering, covered_of, ask, verdict_in, QueryAnswer}
 use Rattle.query.specs.Many.{ask_at, queries_verdict}
-use Rattle.query.specs.declared.answer.ManyAnswer.TheVariants.{Answered}
 use Rattle.query.specs.Steps.{figure, ordinary_at, ordinary_tail, ordinary_curve, lowest, highest, between, apart}
 use Rattle.query.specs.Strip.{strip_of, total_to, strip_at, strips_verdict}
-use Rattle.query.specs.declared.answer.QueryAnswer.{QueryAnswer}
-use Rattle.query.specs.declared.answer.QueryAnswer.TheVariants as query-answer
 use Rattle.query.specs.declared.number.Wanted.{Wanted}
 use Rattle.query.specs.declared.number.Wanted.TheVariants as wanted
 use Rattle.query.proofs.Covering.{every, asked_of_point, from_the_last, before_the_last}
@@ -58,18 +52,18 @@ most wanted.Total = 960
 -- an answer that is a number of that size
 pub record Sized (k : ℕ) (answer : QueryAnswer) : Type 0 where
   pub given : Float
-  pub is : answer ≡ query-answer.Number (mark given)
+  pub is : answer ≡ Ok (mark given)
   pub within : Within k given
 
 -- is not refused
-marked_finite : (v : Float) (b : Bool) → b ≡ true → cond b Accepted (Refused NotFinite) ≡ Accepted
+marked_finite : (v : Float) (b : Bool) → b ≡ true → cond {A = Verdict} b (Ok tt) (Err NotFinite) ≡ Ok tt
 marked_finite v b h = rw h refl
 
-pub sized_accepted : {k : ℕ} {answer : QueryAnswer} → Sized k answer → verdict_in answer ≡ Accepted
+pub sized_accepted : {k : ℕ} {answer : QueryAnswer} → Sized k answer → verdict_in answer ≡ Ok tt
 sized_accepted s = ap verdict_in s.is ∙ marked_finite s.given (finite s.given) (within_finite s.within)
 
 -- the sections of such a curve
-in_record : (w : Wanted) (tag : ℕ) (s : List Float) (q : Float) (k : Section) → ordinary_record tag s ≡ true → ordinary_size q ≡ true → read_section tag s ≡ found.Section k → Within (most w) (figure w k q)
+in_record : (w : Wanted) (tag : ℕ) (s : List Float) (q : Float) (k : Section) → ordinary_record tag s ≡ true → ordinary_size q ≡ true → read_section tag s ≡ Some k → Within (most w) (figure w k q)
 in_record wanted.Price tag s q k o h e = ordinary_value tag s q k o h e
 in_record wanted.Total tag s q k o h e = ordinary_primitive tag s q k o h e
 
@@ -84,12 +78,12 @@ unfolding value primitive
 in_tail wanted.Price curve q o h = wider (constant_value _ (of_tail curve o) (size_within q h)) tt
 in_tail wanted.Total curve q o h = constant_primitive _ (of_tail curve o) (size_within q h)
 
-sized_found : (w : Wanted) (q : Float) (v : Verdict) (f : Found) → v ≡ Accepted → is_section f ≡ true → ((k : Section) → f ≡ found.Section k → Within (most w) (figure w k q)) →
+sized_found : (w : Wanted) (q : Float) (v : Verdict) (f : Option Section) → v ≡ Ok tt → is_section f ≡ true → ((k : Section) → f ≡ Some k → Within (most w) (figure w k q)) →
     Sized (most w) (ask (λ (s : Section). figure w s q) (covered_of v f))
-sized_found w q v (found.Section k) e l h = record { given = figure w k q; is = ap (λ (u : Verdict). ask (λ (s : Section). figure w s q) (covered_of u (found.Section k))) e; within = h k refl }
-sized_found w q v found.Illegal e l h = never l refl
+sized_found w q v (Some k) e l h = record { given = figure w k q; is = ap (λ (u : Verdict). ask (λ (s : Section). figure w s q) (covered_of u (Some k))) e; within = h k refl }
+sized_found w q v None e l h = never l refl
 
-module _ (x : List Float) (curve : Curve) (tags : List ℕ) (slots : List Float) (tested : first (curve_tests x (length tags) (length slots)) ≡ Accepted) (low : 2 ≤ length x)
+module _ (x : List Float) (curve : Curve) (tags : List ℕ) (slots : List Float) (tested : first (curve_tests x (length tags) (length slots)) ≡ Ok tt) (low : 2 ≤ length x)
     (ordinary : ordinary_curve x curve tags slots ≡ true) where
   parts : (ordinary_size (lowest x curve) ≡ true) × ((ordinary_size (highest x curve) ≡ true) × ((ordinary_tail curve ≡ true) × (all_below (length x - 1) (ordinary_at tags slots) ≡ true)))
   unfolding ordinary_curve
@@ -118,7 +112,7 @@ module _ (x : List Float) (curve : Curve) (tags : List ℕ) (slots : List Float)
         let g : le q (at x (length x - 1)) ≡ true = sym (ap (λ (b : Bool). le q (cond b most_size (at x (length x - 1)))) e) ∙ sides.1 in
         rw (e, f, g) refl
 
-    point_accepted : first (point_tests x curve q) ≡ Accepted
+    point_accepted : first (point_tests x curve q) ≡ Ok tt
     point_accepted = rw (not_nan q (within_finite (size_within q of_size)), is_inside curve.extrapolates refl) refl
 
     found_sized : (w : Wanted) (b : Bool) → le (at x (length x - 1)) q ≡ b → Sized (most w) (ask (λ (s : Section). figure w s q) (covered_of (first (point_tests x curve q)) (covering x curve tags slots q)))
@@ -126,8 +120,8 @@ module _ (x : List Float) (curve : Curve) (tags : List ℕ) (slots : List Float)
         record {
           given = figure w (tail_section curve) q;
           is =
-              ap (λ (f : Found). ask (λ (s : Section). figure w s q) (covered_of (first (point_tests x curve q)) f)) (from_the_last x curve tags slots q e)
-              ∙ ap (λ (u : Verdict). ask (λ (s : Section). figure w s q) (covered_of u (found.Section (tail_section curve)))) point_accepted;
+              ap (λ (f : Option Section). ask (λ (s : Section). figure w s q) (covered_of (first (point_tests x curve q)) f)) (from_the_last x curve tags slots q e)
+              ∙ ap (λ (u : Verdict). ask (λ (s : Section). figure w s q) (covered_of u (Some (tail_section curve)))) point_accepted;
           within = in_tail w curve q parts.1.1.0 of_size;
         }
     found_sized w false e =
@@ -138,7 +132,7 @@ module _ (x : List Float) (curve : Curve) (tags : List ℕ) (slots : List Float)
         let s = sized_found w q (first (point_tests x curve q)) (record_at tags slots p) point_accepted (legal_is_read tag here ∙ o.0) (λ k g. in_record w tag here q k o.1 of_size g) in
         record {
           given = s.given;
-          is = ap (λ (f : Found). ask (λ (s : Section). figure w s q) (covered_of (first (point_tests x curve q)) f)) (before_the_last x curve tags slots q e) ∙ s.is;
+          is = ap (λ (f : Option Section). ask (λ (s : Section). figure w s q) (covered_of (first (point_tests x curve q)) f)) (before_the_last x curve tags slots q e) ∙ s.is;
           within = s.within;
         }
 
@@ -159,18 +153,18 @@ module _ (x : List Float) (curve : Curve) (tags : List ℕ) (slots : List Float)
         given = (q.given ⊖ p.given) ⊘ (b ⊖ a);
         is =
             ap (λ (k : QueryAnswer). strip_of a b k (total_to x curve tags slots b)) p.is
-            ∙ ap (strip_of a b (query-answer.Number (mark p.given))) q.is
-            ∙ ap (λ (l : Bool). cond l (query-answer.Number (mark ((q.given ⊖ p.given) ⊘ (b ⊖ a)))) (query-answer.Refused StripEndsNotRising)) o.0;
+            ∙ ap (strip_of a b (Ok (mark p.given))) q.is
+            ∙ ap (λ (l : Bool). cond l (Ok (mark ((q.given ⊖ p.given) ⊘ (b ⊖ a)))) (Err StripEndsNotRising)) o.0;
         within = quotient_within (difference_within q.within p.within tt) (divisor_low (b ⊖ a) d o.1) tt;
       }
 
   -- so no query of many is refused
-  pub all_answered : (w : Wanted) (qs : List Float) → all_below (length qs) (λ i. between (lowest x curve) (highest x curve) (at qs i)) ≡ true → queries_verdict (figure w) x curve tags slots qs ≡ Answered
+  pub all_answered : (w : Wanted) (qs : List Float) → all_below (length qs) (λ i. between (lowest x curve) (highest x curve) (at qs i)) ≡ true → queries_verdict (figure w) x curve tags slots qs ≡ Ok tt
   all_answered w qs h = every (length qs) _ (λ i l. sized_accepted (answered_sized (at qs i) (all_at (length qs) (λ k. between (lowest x curve) (highest x curve) (at qs k)) h i l) w))
 
   -- nor any strip
   pub all_priced : (count : ℕ) (from to : ℕ → Float) → all_below count (λ k. between (lowest x curve) (highest x curve) (from k)) ≡ true →
-      all_below count (λ k. between (lowest x curve) (highest x curve) (to k)) ≡ true → all_below count (λ k. apart (from k) (to k)) ≡ true → strips_verdict x curve tags slots count from to ≡ Answered
+      all_below count (λ k. between (lowest x curve) (highest x curve) (to k)) ≡ true → all_below count (λ k. apart (from k) (to k)) ≡ true → strips_verdict x curve tags slots count from to ≡ Ok tt
   all_priced count from to f g h =
       every count _
       (λ k l.

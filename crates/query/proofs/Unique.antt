@@ -2,10 +2,12 @@
 use mathlib.Core.Path.{◌∙◌, sym}
 use Rattle.numbers.specs.OneOutcome.{OneAnswer, OneOutcome, pair}
 use Rattle.query.proofs.answer.curve_with.Reads as curve-with
-use Rattle.query.proofs.answer.QueryAnswer.in_numbers.Reads as query-answer-in-numbers
-use Rattle.query.proofs.answer.QueryAnswer.verdict.Reads as query-answer-verdict
-use Rattle.query.proofs.answer.QueryAnswer.number.Reads as query-answer-number
-use Rattle.query.proofs.answer.ManyAnswer.in_numbers.Reads as many-answer-in-numbers
+use Rattle.query.proofs.answer.AnswerInNumbersFromResultMarkedRefusal.from.Reads as query-answer-in-numbers
+use Rattle.query.proofs.answer.verdict.Reads as query-answer-verdict
+use Rattle.query.proofs.answer.number.Reads as query-answer-number
+use Rattle.query.proofs.answer.finite.Reads as query-answer-finite
+use Rattle.query.proofs.answer.ManyRefusalFromRefusal.from.Reads as many-refusal-from
+use Rattle.query.proofs.answer.ManyInNumbers.of.Reads as many-answer-in-numbers
 use Rattle.query.proofs.answer.curve_verdict.Reads as curve-verdict
 use Rattle.query.proofs.answer.derivative.Reads as derivative
 use Rattle.query.proofs.many.values.Reads as values
@@ -19,17 +21,23 @@ use Rattle.query.proofs.strips.run.Reads as run
 pub curve_with_unique : OneAnswer curve-with.Post
 curve_with_unique κ a r₁ r₂ s t p q = p ∙ sym q
 
-pub query_answer_in_numbers_unique : OneAnswer query-answer-in-numbers.Post
-query_answer_in_numbers_unique κ a r₁ r₂ s t p q = p ∙ sym q
+pub answer_in_numbers_from_unique : OneAnswer query-answer-in-numbers.Post
+answer_in_numbers_from_unique κ a r₁ r₂ s t p q = p ∙ sym q
 
-pub query_answer_verdict_unique : OneAnswer query-answer-verdict.Post
-query_answer_verdict_unique κ a r₁ r₂ s t p q = p ∙ sym q
+pub verdict_unique : OneAnswer query-answer-verdict.Post
+verdict_unique κ a r₁ r₂ s t p q = p ∙ sym q
 
-pub query_answer_number_unique : OneAnswer query-answer-number.Post
-query_answer_number_unique κ a r₁ r₂ s t p q = p ∙ sym q
+pub number_unique : OneAnswer query-answer-number.Post
+number_unique κ a r₁ r₂ s t p q = p ∙ sym q
 
-pub many_answer_in_numbers_unique : OneAnswer many-answer-in-numbers.Post
-many_answer_in_numbers_unique κ a r₁ r₂ s t p q = p ∙ sym q
+pub finite_unique : OneAnswer query-answer-finite.Post
+finite_unique κ a r₁ r₂ s t p q = p ∙ sym q
+
+pub many_refusal_from_unique : OneAnswer many-refusal-from.Post
+many_refusal_from_unique κ a r₁ r₂ s t p q = p ∙ sym q
+
+pub many_in_numbers_of_unique : OneAnswer many-answer-in-numbers.Post
+many_in_numbers_of_unique κ a r₁ r₂ s t p q = p ∙ sym q
 
 pub derivative_unique : OneAnswer derivative.Post
 derivative_unique κ a r₁ r₂ s t p q = p ∙ sym q

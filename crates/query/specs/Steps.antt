@@ -1,5 +1,9 @@
 -- Steps of the code, which only the contracts of private functions cite.
-use Rattle.std.specs.Prelude.{ℕ, ◌+◌, ◌-◌, ◌*◌, Bool, cond, not, ◌&&◌, ◌||◌, List, eqb, leb, Float, length, get_or, take, drop}
+use Rattle.query.specs.Query.{QueryAnswer}
+use Rattle.query.specs.declared.answer.ManyRefusal.TheVariants as many
+use Rattle.query.specs.Many.{ManyAnswer}
+use Rattle.numbers.specs.declared.Marked.{Marked}
+use Rattle.std.specs.Prelude.{ℕ, ◌+◌, ◌-◌, ◌*◌, Bool, cond, not, ◌&&◌, ◌||◌, List, eqb, leb, Float, length, get_or, take, drop, Err, None, Ok, Option, Some}
 use Rattle.std.specs.Float.Ieee.{neg, lt, le}
 use Rattle.numbers.specs.Every.{all_below}
 use Rattle.numbers.specs.Sizes.{slot_count}
@@ -8,15 +12,9 @@ use Rattle.section.specs.Section.{value, primitive}
 use Rattle.section.specs.declared.section.Section.{Section}
 use Rattle.record.specs.Legal.{legal_record}
 use Rattle.record.specs.Ordinary.{ordinary_record}
-use Rattle.record.specs.declared.number.Answer.{Answer}
-use Rattle.record.specs.declared.number.Answer.TheVariants as answer
 use Rattle.refusal.specs.declared.Refusal.TheVariants.{RecordNotLegal}
 use Rattle.table.specs.Table.{at}
 use Rattle.curve.specs.declared.curve.Curve.{Curve}
-use Rattle.query.specs.declared.answer.ManyAnswer.{ManyAnswer}
-use Rattle.query.specs.declared.answer.ManyAnswer.TheVariants as many
-use Rattle.query.specs.declared.answer.QueryAnswer.{QueryAnswer}
-use Rattle.query.specs.declared.answer.QueryAnswer.TheVariants as query-answer
 use Rattle.query.specs.declared.number.Wanted.{Wanted}
 use Rattle.query.specs.declared.number.Wanted.TheVariants as wanted
 
@@ -30,15 +28,15 @@ figure wanted.Price = value
 figure wanted.Total = primitive
 
 -- what is answered by what the section that covers a query gives, where nothing else refuses it: 15 or a number
-abbrev pub asked_of : Answer → QueryAnswer
-asked_of (answer.Number m) = query-answer.Number m
-asked_of answer.Illegal = query-answer.Refused RecordNotLegal
+abbrev pub asked_of : Option Marked → QueryAnswer
+asked_of (Some m) = Ok m
+asked_of None = Err RecordNotLegal
 
 -- how many of the first queries of n are answered
 abbrev pub answered_before : ManyAnswer → ℕ → ℕ
-answered_before many.Answered n = n
-answered_before (many.Refused r) n = 0
-answered_before (many.RefusedAt r k) n = k
+answered_before (Ok tt) n = n
+answered_before (Err (many.Whole r)) n = 0
+answered_before (Err (many.Query r k)) n = k
 
 -- ---- our own: a curve of ordinary size, which answers every point of ordinary size with a finite number
 -- the record of section i is legal and of ordinary size

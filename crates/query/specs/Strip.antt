@@ -1,5 +1,6 @@
 -- 02, K1: the price of a strip, by the totals up to its two ends. K7: it is marked by its own number.
-use Rattle.std.specs.Prelude.{ℕ, ◌+◌, ◌-◌, cond, List, eqb, Float, length}
+use Rattle.query.specs.declared.answer.ManyRefusal.TheVariants as many
+use Rattle.std.specs.Prelude.{ℕ, ◌+◌, ◌-◌, cond, List, eqb, Float, length, Err, Ok}
 use Rattle.std.specs.Float.Ieee.{lt}
 use Rattle.numbers.specs.Marks.{mark}
 use Rattle.numbers.specs.OneOutcome.{pair}
@@ -10,19 +11,15 @@ use Rattle.refusal.specs.Refusal.{first}
 use Rattle.refusal.specs.declared.Refusal.TheVariants.{LengthsDiffer, StripEndsNotRising}
 use Rattle.table.specs.Table.{at}
 use Rattle.curve.specs.declared.curve.Curve.{Curve}
-use Rattle.query.specs.Many.{or_next, first_refused, many_tests, of_all, many_by}
-use Rattle.query.specs.Query.{covered_at, ask, number_in, verdict_in}
-use Rattle.query.specs.declared.answer.ManyAnswer.{ManyAnswer}
-use Rattle.query.specs.declared.answer.ManyAnswer.TheVariants as many
-use Rattle.query.specs.declared.answer.QueryAnswer.{QueryAnswer}
-use Rattle.query.specs.declared.answer.QueryAnswer.TheVariants as query-answer
+use Rattle.query.specs.Many.{or_next, first_refused, many_tests, of_all, many_by, ManyAnswer}
+use Rattle.query.specs.Query.{covered_at, ask, number_in, verdict_in, QueryAnswer}
 
 -- What was totalled up to b and not up to a, over the length: the refusals of a's query come first, then those of b's, then 18.
 abbrev pub strip_of : Float → Float → QueryAnswer → QueryAnswer → QueryAnswer
-strip_of a b (query-answer.Refused r) up_to_b = query-answer.Refused r
-strip_of a b (query-answer.Number p) (query-answer.Refused r) = query-answer.Refused r
-strip_of a b (query-answer.Number p) (query-answer.Number q) =
-    cond (lt a b) (query-answer.Number (mark ((q.number ⊖ p.number) ⊘ (b ⊖ a)))) (query-answer.Refused StripEndsNotRising)
+strip_of a b (Err r) up_to_b = Err r
+strip_of a b (Ok p) (Err r) = Err r
+strip_of a b (Ok p) (Ok q) =
+    cond (lt a b) (Ok (mark ((q.number ⊖ p.number) ⊘ (b ⊖ a)))) (Err StripEndsNotRising)
 
 module _ (x : List Float) (curve : Curve) (tags : List ℕ) (slots : List Float) where
   -- what the `primitive` query answers
@@ -49,7 +46,7 @@ abbrev pub pairs_outcome : List Float → Curve → List ℕ → List Float → 
 pairs_outcome x curve tags slots starts ends out =
     cond (eqb (length starts) (length ends))
     (strips_outcome x curve tags slots (length starts) (at starts) (at ends) out)
-    (pair (many.Refused LengthsDiffer) out)
+    (pair (Err (many.Whole LengthsDiffer)) out)
 
 -- from each edge to the next
 abbrev pub run_outcome : List Float → Curve → List ℕ → List Float → List Float → List Float → ManyAnswer × List Float

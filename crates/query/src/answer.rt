@@ -1,47 +1,40 @@
 // What a query is refused for, and what it is answered. `single` and `many` answer it.
-ghost use Rattle.std.specs.Prelude.{◌≡◌, ◌||◌, ◌-◌, ◌*◌, ◌≤◌, ltb};
+ghost use Rattle.std.specs.Prelude.{Err, ◌≡◌, ◌||◌, ◌-◌, ◌*◌, ◌≤◌, ltb};
 ghost use Rattle.refusal.specs.Refusal.{first};
 ghost use Rattle.numbers.specs.Sizes.{slot_count};
+ghost use Rattle.query.specs.declared.answer.ManyRefusal.TheVariants.{Whole};
 ghost use Rattle.query.specs.Many.{many_in_numbers};
-ghost use Rattle.query.specs.Query.{outside, curve_tests, point_tests, query_tests, number_in, verdict_in, answer_in_numbers, curve_with};
+ghost use Rattle.query.specs.Query.{outside, curve_tests, point_tests, query_tests, number_in, verdict_in, finite_in, answer_in_numbers, curve_with};
 
 use assembly::sections::Tail;
 use curve::curve::Curve;
 use numbers::{Marked, SLOTS};
-use refusal::{Refusal, Verdict};
-use section::section::Section;
+use refusal::Refusal;
 use table::check::knots_of;
 
-// The section that answers a query, or why there is none. Only the definitions speak of it: the code goes from the slots of a record straight to the number.
-#[derive(Clone, Copy)]
-pub enum Covered {
-    Section(Section),
-    Refused(Refusal),
-}
-
-// What a query answers: a number with the mark whether it is finite, or the first refusal of those that come before that.
-#[derive(Clone, Copy)]
-pub enum QueryAnswer {
-    Number(Marked),
-    Refused(Refusal),
-}
-
-// The same in numbers: the refusal's, or 0, and the answer, which is +0.0 where it is refused. A number that is not finite is refused here.
+// An answer in numbers: the refusal's, or 0, and the number, which is +0.0 where it is refused. A number that is not finite is refused here.
 #[derive(Clone, Copy)]
 pub struct AnswerInNumbers {
     pub refusal: u8,
     pub answer: f64,
 }
 
-// What many queries are answered: every number, or none, for a fault of all or for the first query that is refused, counted from 0.
-#[derive(Clone, Copy)]
-pub enum ManyAnswer {
-    Answered,
-    Refused(Refusal),
-    RefusedAt(Refusal, usize),
+// Why many queries are not answered: for a fault of all, or for the first query that is refused, counted from 0.
+#[derive(Clone, Copy, Debug, PartialEq, Eq)]
+pub enum ManyRefusal {
+    Whole(Refusal),
+    Query(Refusal, usize),
 }
 
-// The same in numbers: the refusal's, or 0, and which query was refused first, or how many there are where none was.
+impl From<Refusal> for ManyRefusal {
+    ghost from_gives = { λ refusal m. m ≡ Whole refusal };
+
+    fn from(refusal: Refusal) -> Self {
+        ManyRefusal::Whole(refusal)
+    }
+}
+
+// The answer to many queries in numbers: the refusal's, or 0, and which query was refused first, or how many there are where none was.
 #[repr(C)]
 #[derive(Clone, Copy)]
 pub struct ManyInNumbers {
@@ -62,41 +55,41 @@ pub fn curve_with(value: f64, total: f64, from: f64, extrapolates: bool) -> Curv
     }
 }
 
-impl QueryAnswer {
-    // What refuses it: a number that is not finite is refused too, after all else.
-    pub fn verdict(self) -> Verdict
-        ensures { result ≡ verdict_in self }
-    {
-        match self {
-            QueryAnswer::Number(marked) => {
-                if marked.finite {
-                    return Verdict::Accepted;
-                }
-                Verdict::Refused(Refusal::NotFinite)
-            }
-            QueryAnswer::Refused(refusal) => Verdict::Refused(refusal),
-        }
+// What refuses an answer: a number that is not finite is refused too, after all else.
+pub fn verdict(asked: Result<Marked, Refusal>) -> Result<(), Refusal>
+    ensures { result ≡ verdict_in asked }
+{
+    if asked?.finite {
+        return Ok(());
     }
+    Err(Refusal::NotFinite)
+}
 
-    // The number by its bits, finite or not, and +0.0 where there is none.
-    pub fn number(self) -> f64
-        ensures { result ≡ number_in self }
-    {
-        match self {
-            QueryAnswer::Number(marked) => marked.number,
-            QueryAnswer::Refused(_) => 0.0,
-        }
+// An answer's number by its bits, finite or not, and +0.0 where there is none.
+pub fn number(asked: Result<Marked, Refusal>) -> f64
+    ensures { result ≡ number_in asked }
+{
+    match asked {
+        Ok(marked) => marked.number,
+        Err(_) => 0.0,
     }
+}
 
-    pub fn in_numbers(self) -> AnswerInNumbers
-        ensures { result ≡ answer_in_numbers self }
-    {
-        match self.verdict() {
-            Verdict::Accepted => AnswerInNumbers {
-                refusal: 0,
-                answer: self.number(),
-            },
-            Verdict::Refused(refusal) => AnswerInNumbers {
+// An answer's number, or what refuses it.
+pub fn finite(asked: Result<Marked, Refusal>) -> Result<f64, Refusal>
+    ensures { result ≡ finite_in asked }
+{
+    verdict(asked)?;
+    Ok(number(asked))
+}
+
+impl From<Result<Marked, Refusal>> for AnswerInNumbers {
+    ghost from_gives = { λ asked n. n ≡ answer_in_numbers asked };
+
+    fn from(asked: Result<Marked, Refusal>) -> Self {
+        match finite(asked) {
+            Ok(answer) => AnswerInNumbers { refusal: 0, answer },
+            Err(refusal) => AnswerInNumbers {
                 refusal: refusal.number(),
                 answer: 0.0,
             },
@@ -104,20 +97,21 @@ impl QueryAnswer {
     }
 }
 
-impl ManyAnswer {
-    pub fn in_numbers(self, count: usize) -> ManyInNumbers
-        ensures { result ≡ many_in_numbers self count }
+impl ManyInNumbers {
+    // Of so many queries.
+    pub fn of(answered: Result<(), ManyRefusal>, count: usize) -> Self
+        ensures { result ≡ many_in_numbers answered count }
     {
-        match self {
-            ManyAnswer::Answered => ManyInNumbers {
+        match answered {
+            Ok(()) => ManyInNumbers {
                 refusal: 0,
                 query: count,
             },
-            ManyAnswer::Refused(refusal) => ManyInNumbers {
+            Err(ManyRefusal::Whole(refusal)) => ManyInNumbers {
                 refusal: refusal.number(),
                 query: count,
             },
-            ManyAnswer::RefusedAt(refusal, query) => ManyInNumbers {
+            Err(ManyRefusal::Query(refusal, query)) => ManyInNumbers {
                 refusal: refusal.number(),
                 query,
             },
@@ -129,10 +123,7 @@ fn no_room(points: usize, tags: usize, slots: usize) -> bool
     requires { (2 ≤ points) × (points ≤ 4096) }
     ensures { result ≡ (ltb tags (points - 1) || ltb slots (slot_count * (points - 1))) }
 {
-    if tags < points - 1 {
-        return true;
-    }
-    slots < SLOTS * (points - 1)
+    tags < points - 1 || slots < SLOTS * (points - 1)
 }
 
 fn is_outside(xs: &[f64], curve: Curve, q: f64) -> bool
@@ -145,62 +136,62 @@ fn is_outside(xs: &[f64], curve: Curve, q: f64) -> bool
         return true;
     }
     let last = xs.len() - 1;
-    if xs[0] <= q {
-        return !(q <= xs[last]);
-    }
-    true
+    !(xs[0] <= q && q <= xs[last])
 }
 
 // What is asked whatever the query: refusals 4, 5, 7, 10 and 11, for lent records of these lengths.
-pub fn curve_verdict(xs: &[f64], tags: usize, slots: usize) -> Verdict
+pub fn curve_verdict(xs: &[f64], tags: usize, slots: usize) -> Result<(), Refusal>
     ensures { result ≡ first (curve_tests xs.now tags slots) }
 {
     if xs.len() < 2 {
-        return Verdict::Refused(Refusal::TooFewPoints);
+        return Err(Refusal::TooFewPoints);
     }
     let knots = knots_of(xs);
     if !knots.finite {
-        return Verdict::Refused(Refusal::KnotNotFinite);
+        return Err(Refusal::KnotNotFinite);
     }
     if !knots.rising {
-        return Verdict::Refused(Refusal::KnotsNotRising);
+        return Err(Refusal::KnotsNotRising);
     }
     if 4096 < xs.len() {
-        return Verdict::Refused(Refusal::TooManyPoints);
+        return Err(Refusal::TooManyPoints);
     }
     if no_room(xs.len(), tags, slots) {
-        return Verdict::Refused(Refusal::BufferTooShort);
+        return Err(Refusal::BufferTooShort);
     }
-    Verdict::Accepted
+    Ok(())
 }
 
 // What is asked of the query itself: refusals 12 and 13.
-pub(crate) fn point_verdict(xs: &[f64], curve: Curve, q: f64) -> Verdict
+pub(crate) fn point_verdict(xs: &[f64], curve: Curve, q: f64) -> Result<(), Refusal>
     ensures { result ≡ first (point_tests xs.now curve q) }
 {
     if q != q {
-        return Verdict::Refused(Refusal::QueryNotANumber);
+        return Err(Refusal::QueryNotANumber);
     }
     if is_outside(xs, curve, q) {
-        return Verdict::Refused(Refusal::QueryOutside);
+        return Err(Refusal::QueryOutside);
     }
-    Verdict::Accepted
+    Ok(())
 }
 
 // The first refusal of a query, short of an illegal record.
-pub(crate) fn query_verdict(xs: &[f64], curve: Curve, tags: usize, slots: usize, q: f64) -> Verdict
+pub(crate) fn query_verdict(
+    xs: &[f64],
+    curve: Curve,
+    tags: usize,
+    slots: usize,
+    q: f64,
+) -> Result<(), Refusal>
     ensures { result ≡ first (query_tests xs.now curve tags slots q) }
 {
-    let verdict = curve_verdict(xs, tags, slots);
-    match verdict {
-        Verdict::Refused(_) => verdict,
-        Verdict::Accepted => point_verdict(xs, curve, q),
-    }
+    curve_verdict(xs, tags, slots)?;
+    point_verdict(xs, curve, q)
 }
 
 // The method has no derivative: whatever is asked, it is refused.
-pub fn derivative(q: f64) -> QueryAnswer
-    ensures { result ≡ QueryAnswer.Refused Refusal.DerivativeAsked }
+pub fn derivative(q: f64) -> Result<Marked, Refusal>
+    ensures { result ≡ Err Refusal.DerivativeAsked }
 {
-    QueryAnswer::Refused(Refusal::DerivativeAsked)
+    Err(Refusal::DerivativeAsked)
 }

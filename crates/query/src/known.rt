@@ -1,12 +1,10 @@
 // What is known of many queries without an answer to each. A curve of ordinary size answers every point of ordinary size with a finite number, so only the
 // points are left to be looked at, without a branch. What is not known so is found out query by query.
-ghost use Rattle.std.specs.Prelude.{◌≡◌, true, ◌+◌, ◌-◌, ◌*◌, ◌≤◌, ◌<◌, Float, length};
+ghost use Rattle.std.specs.Prelude.{Ok, ◌≡◌, true, ◌+◌, ◌-◌, ◌*◌, ◌≤◌, ◌<◌, Float, length};
 ghost use Rattle.numbers.specs.Every.{all_below};
 ghost use Rattle.numbers.specs.Sizes.{slot_count};
 ghost use Rattle.refusal.specs.Refusal.{first};
-ghost use Rattle.refusal.specs.declared.Verdict.TheVariants.{Accepted};
 ghost use Rattle.table.specs.Table.{at};
-ghost use Rattle.query.specs.declared.answer.ManyAnswer.TheVariants.{Answered};
 ghost use Rattle.query.specs.declared.number.Wanted.{Wanted};
 ghost use Rattle.query.specs.Query.{curve_tests};
 ghost use Rattle.query.specs.Many.{queries_verdict};
@@ -95,7 +93,7 @@ fn are_apart(starts: &[f64], ends: &[f64]) -> bool
 }
 
 fn is_ordinary_curve(xs: &[f64], curve: Curve, tags: &[u16], slots: &[f64]) -> bool
-    requires { first (curve_tests xs.now (length tags.now) (length slots.now)) ≡ Accepted }
+    requires { first (curve_tests xs.now (length tags.now) (length slots.now)) ≡ Ok tt }
     ensures { result ≡ ordinary_curve xs.now curve tags.now slots.now }
 {
     if !is_ordinary_size(lowest(xs, curve)) {
@@ -118,8 +116,8 @@ pub(crate) fn are_answered(
     slots: &[f64],
     qs: &[f64],
 ) -> bool
-    requires { first (curve_tests xs.now (length tags.now) (length slots.now)) ≡ Accepted }
-    ensures { result ≡ true → (w : Wanted) → queries_verdict (figure w) xs.now curve tags.now slots.now qs.now ≡ Answered }
+    requires { first (curve_tests xs.now (length tags.now) (length slots.now)) ≡ Ok tt }
+    ensures { result ≡ true → (w : Wanted) → queries_verdict (figure w) xs.now curve tags.now slots.now qs.now ≡ Ok tt }
 {
     if qs.len() < xs.len() {
         return false;
@@ -139,8 +137,8 @@ pub(crate) fn are_priced(
     starts: &[f64],
     ends: &[f64],
 ) -> bool
-    requires { (first (curve_tests xs.now (length tags.now) (length slots.now)) ≡ Accepted) × (length starts.now ≡ length ends.now) }
-    ensures { result ≡ true → strips_verdict xs.now curve tags.now slots.now (length starts.now) (at starts.now) (at ends.now) ≡ Answered }
+    requires { (first (curve_tests xs.now (length tags.now) (length slots.now)) ≡ Ok tt) × (length starts.now ≡ length ends.now) }
+    ensures { result ≡ true → strips_verdict xs.now curve tags.now slots.now (length starts.now) (at starts.now) (at ends.now) ≡ Ok tt }
 {
     if starts.len() < xs.len() {
         return false;

@@ -1,25 +1,22 @@
 // Prices, or running totals, at many points of one curve. The knots are checked once, and nothing is written where any query is refused.
-ghost use Rattle.std.specs.Prelude.{◌≡◌, true, ◌+◌, ◌≤◌, ◌<◌, length};
+ghost use Rattle.std.specs.Prelude.{Ok, ◌≡◌, true, ◌+◌, ◌≤◌, ◌<◌, length};
 ghost use Rattle.section.specs.Section.{value, primitive};
 ghost use Rattle.record.specs.Number.{answer_in};
 ghost use Rattle.refusal.specs.Refusal.{first};
-ghost use Rattle.refusal.specs.declared.Verdict.TheVariants.{Accepted};
 ghost use Rattle.numbers.specs.OneOutcome.{pair};
 ghost use Rattle.numbers.specs.Overlay.{overlay};
 ghost use Rattle.table.specs.Table.{at};
-ghost use Rattle.query.specs.declared.answer.ManyAnswer.TheVariants.{Answered};
 ghost use Rattle.query.specs.Query.{curve_tests, point_tests, covering};
 ghost use Rattle.query.specs.Steps.{figure, answered_before};
 ghost use Rattle.query.specs.Many.{ask_at, formula_at, queries_verdict, many_verdict, many_outcome};
 
-use crate::answer::{ManyAnswer, QueryAnswer, curve_verdict, point_verdict};
+use crate::answer::{ManyRefusal, curve_verdict, number, point_verdict, verdict};
 use crate::known::are_answered;
 use crate::number::{Wanted, asked_of, record_number, tail_number};
 use crate::place::{least, place_from};
 use curve::curve::Curve;
-use numbers::mark;
-use record::number::Answer;
-use refusal::{Refusal, Verdict};
+use numbers::{Marked, mark};
+use refusal::Refusal;
 
 // So many queries are answered at a time where it is not known beforehand that none is refused.
 const BLOCK: usize = 64;
@@ -27,7 +24,7 @@ const BLOCK: usize = 64;
 // What the section that covers a query answers, and the place where it was found.
 #[derive(Clone, Copy)]
 pub(crate) struct Near {
-    pub answer: Answer,
+    pub answer: Option<Marked>,
     pub place: usize,
 }
 
@@ -41,14 +38,14 @@ pub(crate) fn number_near(
     near: usize,
     q: f64,
 ) -> Near
-    requires { (first (curve_tests xs.now (length tags.now) (length slots.now)) ≡ Accepted) × (near + 1 < length xs.now) }
+    requires { (first (curve_tests xs.now (length tags.now) (length slots.now)) ≡ Ok tt) × (near + 1 < length xs.now) }
     ensures answer { result.answer ≡ answer_in (λ s. figure wanted s q) (covering xs.now curve tags.now slots.now q) }
     ensures place { result.place + 1 < length xs.now }
 {
     let end = xs[xs.len() - 1];
     if end <= q {
         return Near {
-            answer: Answer::Number(mark(tail_number(curve, wanted, q))),
+            answer: Some(mark(tail_number(curve, wanted, q))),
             place: near,
         };
     }
@@ -60,7 +57,7 @@ pub(crate) fn number_near(
 // What a query is answered, and the place where its section was found.
 #[derive(Clone, Copy)]
 pub(crate) struct Looked {
-    pub answer: QueryAnswer,
+    pub answer: Result<Marked, Refusal>,
     pub place: usize,
 }
 
@@ -75,26 +72,22 @@ pub(crate) fn look(
     near: usize,
     q: f64,
 ) -> Looked
-    requires slots_value { (first (curve_tests xs.now (length tags.now) (length slots.now)) ≡ Accepted) × (near + 1 < length xs.now) }
-    requires q_value { known ≡ true → first (point_tests xs.now curve q) ≡ Accepted }
+    requires slots_value { (first (curve_tests xs.now (length tags.now) (length slots.now)) ≡ Ok tt) × (near + 1 < length xs.now) }
+    requires q_value { known ≡ true → first (point_tests xs.now curve q) ≡ Ok tt }
     ensures answer { result.answer ≡ ask_at (figure wanted) xs.now curve tags.now slots.now q }
     ensures place { result.place + 1 < length xs.now }
 {
     if !known {
-        match point_verdict(xs, curve, q) {
-            Verdict::Refused(refusal) => {
-                return Looked {
-                    answer: QueryAnswer::Refused(refusal),
-                    place: near,
-                };
-            }
-            Verdict::Accepted => {}
+        if let Err(refusal) = point_verdict(xs, curve, q) {
+            return Looked {
+                answer: Err(refusal),
+                place: near,
+            };
         }
     }
     let found = number_near(wanted, xs, curve, tags, slots, near, q);
-    let answer = found.answer;
     Looked {
-        answer: asked_of(answer),
+        answer: asked_of(found.answer),
         place: found.place,
     }
 }
@@ -111,28 +104,24 @@ fn fill(
     slots: &[f64],
     qs: &[f64],
     out: &mut [f64],
-) -> ManyAnswer
-    requires slots_value { (first (curve_tests xs.now (length tags.now) (length slots.now)) ≡ Accepted) × (length qs.now ≤ length out.old) }
-    requires qs_value { known ≡ true → queries_verdict (figure wanted) xs.now curve tags.now slots.now qs.now ≡ Answered }
+) -> Result<(), ManyRefusal>
+    requires slots_value { (first (curve_tests xs.now (length tags.now) (length slots.now)) ≡ Ok tt) × (length qs.now ≤ length out.old) }
+    requires qs_value { known ≡ true → queries_verdict (figure wanted) xs.now curve tags.now slots.now qs.now ≡ Ok tt }
     ensures verdict { result ≡ queries_verdict (figure wanted) xs.now curve tags.now slots.now qs.now }
     ensures out { out.new ≡ overlay 0 (answered_before result (length qs.now)) (λ i. formula_at (figure wanted) xs.now curve tags.now slots.now (at qs.now i)) out.old }
 {
     let mut place: usize = 0;
     for i in 0..qs.len() {
         let looked = look(known, wanted, xs, curve, tags, slots, place, qs[i]);
-        let answer = looked.answer;
         if !known {
-            match answer.verdict() {
-                Verdict::Refused(refusal) => {
-                    return ManyAnswer::RefusedAt(refusal, i);
-                }
-                Verdict::Accepted => {}
+            if let Err(refusal) = verdict(looked.answer) {
+                return Err(ManyRefusal::Query(refusal, i));
             }
         }
-        out[i] = answer.number();
+        out[i] = number(looked.answer);
         place = looked.place;
     }
-    ManyAnswer::Answered
+    Ok(())
 }
 
 // The first refusal of the queries, in their order: a block of them at a time is answered into room of its own.
@@ -143,8 +132,8 @@ fn blocks_verdict(
     tags: &[u16],
     slots: &[f64],
     qs: &[f64],
-) -> ManyAnswer
-    requires { first (curve_tests xs.now (length tags.now) (length slots.now)) ≡ Accepted }
+) -> Result<(), ManyRefusal>
+    requires { first (curve_tests xs.now (length tags.now) (length slots.now)) ≡ Ok tt }
     ensures { result ≡ queries_verdict (figure wanted) xs.now curve tags.now slots.now qs.now }
 {
     let knot = xs[0];
@@ -163,17 +152,17 @@ fn blocks_verdict(
             &qs[from..to],
             &mut room,
         ) {
-            ManyAnswer::Refused(refusal) => {
-                return ManyAnswer::Refused(refusal);
+            Ok(()) => {}
+            Err(ManyRefusal::Whole(refusal)) => {
+                return Err(ManyRefusal::Whole(refusal));
             }
-            ManyAnswer::RefusedAt(refusal, k) => {
-                return ManyAnswer::RefusedAt(refusal, from + k);
+            Err(ManyRefusal::Query(refusal, k)) => {
+                return Err(ManyRefusal::Query(refusal, from + k));
             }
-            ManyAnswer::Answered => {}
         }
         from = to;
     }
-    ManyAnswer::Answered
+    Ok(())
 }
 
 // The same, with no look at each query where it is known that none is refused.
@@ -184,12 +173,12 @@ fn queries_verdict(
     tags: &[u16],
     slots: &[f64],
     qs: &[f64],
-) -> ManyAnswer
-    requires { first (curve_tests xs.now (length tags.now) (length slots.now)) ≡ Accepted }
+) -> Result<(), ManyRefusal>
+    requires { first (curve_tests xs.now (length tags.now) (length slots.now)) ≡ Ok tt }
     ensures { result ≡ queries_verdict (figure wanted) xs.now curve tags.now slots.now qs.now }
 {
     if are_answered(xs, curve, tags, slots, qs) {
-        return ManyAnswer::Answered;
+        return Ok(());
     }
     blocks_verdict(wanted, xs, curve, tags, slots, qs)
 }
@@ -202,18 +191,14 @@ fn many_verdict(
     slots: &[f64],
     qs: &[f64],
     room: usize,
-) -> ManyAnswer
+) -> Result<(), ManyRefusal>
     ensures { result ≡ many_verdict (figure wanted) xs.now curve tags.now slots.now qs.now room }
 {
-    match curve_verdict(xs, tags.len(), slots.len()) {
-        Verdict::Refused(refusal) => ManyAnswer::Refused(refusal),
-        Verdict::Accepted => {
-            if room < qs.len() {
-                return ManyAnswer::Refused(Refusal::BufferTooShort);
-            }
-            queries_verdict(wanted, xs, curve, tags, slots, qs)
-        }
+    curve_verdict(xs, tags.len(), slots.len())?;
+    if room < qs.len() {
+        return Err(ManyRefusal::Whole(Refusal::BufferTooShort));
     }
+    queries_verdict(wanted, xs, curve, tags, slots, qs)
 }
 
 // What is wanted at each point, into the first entries of `out`, or the first refusal.
@@ -225,19 +210,13 @@ fn answers(
     slots: &[f64],
     qs: &[f64],
     out: &mut [f64],
-) -> ManyAnswer
+) -> Result<(), ManyRefusal>
     ensures { pair result out.new ≡ many_outcome (figure wanted) xs.now curve tags.now slots.now qs.now out.old }
 {
-    let verdict = many_verdict(wanted, xs, curve, tags, slots, qs, out.len());
-    match verdict {
-        ManyAnswer::Refused(_) => verdict,
-        ManyAnswer::RefusedAt(_, _) => verdict,
-        ManyAnswer::Answered => {
-            let knot = xs[0];
-            let known = knot == knot;
-            fill(known, wanted, xs, curve, tags, slots, qs, out)
-        }
-    }
+    many_verdict(wanted, xs, curve, tags, slots, qs, out.len())?;
+    let knot = xs[0];
+    let known = knot == knot;
+    fill(known, wanted, xs, curve, tags, slots, qs, out)
 }
 
 // The price at each of many points, each as `value` answers it.
@@ -248,7 +227,7 @@ pub fn values(
     slots: &[f64],
     qs: &[f64],
     out: &mut [f64],
-) -> ManyAnswer
+) -> Result<(), ManyRefusal>
     ensures { pair result out.new ≡ many_outcome value xs.now curve tags.now slots.now qs.now out.old }
 {
     answers(Wanted::Price, xs, curve, tags, slots, qs, out)
@@ -262,7 +241,7 @@ pub fn primitives(
     slots: &[f64],
     qs: &[f64],
     out: &mut [f64],
-) -> ManyAnswer
+) -> Result<(), ManyRefusal>
     ensures { pair result out.new ≡ many_outcome primitive xs.now curve tags.now slots.now qs.now out.old }
 {
     answers(Wanted::Total, xs, curve, tags, slots, qs, out)

@@ -6,10 +6,9 @@ ghost use Rattle.record.specs.Reading.{record_at};
 ghost use Rattle.query.specs.Query.{tail_section};
 ghost use Rattle.query.specs.Steps.{figure, asked_of};
 
-use crate::answer::QueryAnswer;
 use curve::curve::Curve;
 use numbers::{Marked, SLOTS};
-use record::number::{Answer, primitive_in, value_in};
+use record::number::{primitive_in, value_in};
 use refusal::Refusal;
 use section::everywhere_constant::EverywhereConstant;
 
@@ -33,7 +32,13 @@ pub(crate) fn tail_number(curve: Curve, wanted: Wanted, q: f64) -> f64
 }
 
 // What the record of section i answers. All who ask a record come through here: what is called from one place only is compiled into it.
-pub(crate) fn record_number(wanted: Wanted, tags: &[u16], slots: &[f64], i: usize, q: f64) -> Answer
+pub(crate) fn record_number(
+    wanted: Wanted,
+    tags: &[u16],
+    slots: &[f64],
+    i: usize,
+    q: f64,
+) -> Option<Marked>
     requires { (i < length tags.now) × (slot_count * i + slot_count ≤ length slots.now) × (i < 4096) }
     ensures { result ≡ answer_in (λ s. figure wanted s q) (record_at tags.now slots.now i) }
 {
@@ -46,15 +51,16 @@ pub(crate) fn record_number(wanted: Wanted, tags: &[u16], slots: &[f64], i: usiz
     }
 }
 
-// What a query is answered that nothing refuses but its record. The two fields are handed on one by one: a struct as a whole is copied in bytes.
-pub(crate) fn asked_of(answer: Answer) -> QueryAnswer
+// What a query is answered that nothing refuses but its record. The two fields are handed on one by one: with `ok_or` the struct is copied as a whole, in
+// bytes, and a price at one point takes a fifth longer.
+pub(crate) fn asked_of(answer: Option<Marked>) -> Result<Marked, Refusal>
     ensures { result ≡ asked_of answer }
 {
     match answer {
-        Answer::Number(marked) => QueryAnswer::Number(Marked {
+        Some(marked) => Ok(Marked {
             number: marked.number,
             finite: marked.finite,
         }),
-        Answer::Illegal => QueryAnswer::Refused(Refusal::RecordNotLegal),
+        None => Err(Refusal::RecordNotLegal),
     }
 }

@@ -1,20 +1,22 @@
 // Many strips of one curve. The knots are checked once, and nothing is written where any strip is refused.
-ghost use Rattle.std.specs.Prelude.{◌≡◌, true, ℕ, ◌+◌, ◌≤◌, ◌<◌, length};
+ghost use Rattle.std.specs.Prelude.{Ok, ◌≡◌, true, ℕ, ◌+◌, ◌≤◌, ◌<◌, length};
 ghost use Rattle.numbers.specs.OneOutcome.{pair};
 ghost use Rattle.refusal.specs.Refusal.{first};
-ghost use Rattle.refusal.specs.declared.Verdict.TheVariants.{Accepted};
 ghost use Rattle.table.specs.Table.{at};
-ghost use Rattle.query.specs.declared.answer.ManyAnswer.TheVariants.{Answered};
-ghost use Rattle.query.specs.Query.{curve_tests};
+ghost use Rattle.section.specs.Section.{primitive};
+ghost use Rattle.record.specs.Number.{answer_in, or_zero};
+ghost use Rattle.query.specs.Query.{curve_tests, covering};
 ghost use Rattle.query.specs.Strip.{strips_verdict, strips_after, strips_outcome, pairs_outcome, run_outcome};
 
-use crate::answer::{ManyAnswer, QueryAnswer, curve_verdict};
+use crate::answer::{ManyRefusal, curve_verdict, verdict};
 use crate::known::are_priced;
-use crate::many::{look, number_near};
-use crate::number::Wanted;
+use crate::many::look;
+use crate::number::{Wanted, record_number, tail_number};
+use crate::place::place_from;
 use crate::strip::strip_of;
 use curve::curve::Curve;
-use refusal::{Refusal, Verdict};
+use record::number::or_zero;
+use refusal::Refusal;
 
 // The first refusal of the strips, in their order, by what each is answered. Where each starts at the end of the one before it, that end is asked once.
 fn each_verdict(
@@ -25,13 +27,13 @@ fn each_verdict(
     starts: &[f64],
     ends: &[f64],
     adjoining: bool,
-) -> ManyAnswer
-    requires slots_value { (first (curve_tests xs.now (length tags.now) (length slots.now)) ≡ Accepted) × (length starts.now ≡ length ends.now) }
+) -> Result<(), ManyRefusal>
+    requires slots_value { (first (curve_tests xs.now (length tags.now) (length slots.now)) ≡ Ok tt) × (length starts.now ≡ length ends.now) }
     requires k_value { adjoining ≡ true → (k : ℕ) → k + 1 < length starts.now → at starts.now (k + 1) ≡ at ends.now k }
     ensures { result ≡ strips_verdict xs.now curve tags.now slots.now (length starts.now) (at starts.now) (at ends.now) }
 {
     let mut place: usize = 0;
-    let mut before = QueryAnswer::Refused(Refusal::QueryNotANumber);
+    let mut before = Err(Refusal::QueryNotANumber);
     for k in 0..starts.len() {
         let start = starts[k];
         let end = ends[k];
@@ -42,17 +44,13 @@ fn each_verdict(
             place = since.place;
         }
         let until = look(false, Wanted::Total, xs, curve, tags, slots, place, end);
-        let answer = until.answer;
-        match strip_of(start, end, before, answer).verdict() {
-            Verdict::Refused(refusal) => {
-                return ManyAnswer::RefusedAt(refusal, k);
-            }
-            Verdict::Accepted => {}
+        if let Err(refusal) = verdict(strip_of(start, end, before, until.answer)) {
+            return Err(ManyRefusal::Query(refusal, k));
         }
-        before = answer;
+        before = until.answer;
         place = until.place;
     }
-    ManyAnswer::Answered
+    Ok(())
 }
 
 // The same, with no look at each strip where it is known that none is refused.
@@ -64,15 +62,41 @@ fn strips_verdict(
     starts: &[f64],
     ends: &[f64],
     adjoining: bool,
-) -> ManyAnswer
-    requires slots_value { (first (curve_tests xs.now (length tags.now) (length slots.now)) ≡ Accepted) × (length starts.now ≡ length ends.now) }
+) -> Result<(), ManyRefusal>
+    requires slots_value { (first (curve_tests xs.now (length tags.now) (length slots.now)) ≡ Ok tt) × (length starts.now ≡ length ends.now) }
     requires k_value { adjoining ≡ true → (k : ℕ) → k + 1 < length starts.now → at starts.now (k + 1) ≡ at ends.now k }
     ensures { result ≡ strips_verdict xs.now curve tags.now slots.now (length starts.now) (at starts.now) (at ends.now) }
 {
     if are_priced(xs, curve, tags, slots, starts, ends) {
-        return ManyAnswer::Answered;
+        return Ok(());
     }
     each_verdict(xs, curve, tags, slots, starts, ends, adjoining)
+}
+
+// The total up to a place, and where the section was found that tells it.
+#[derive(Clone, Copy)]
+struct Total {
+    number: f64,
+    place: usize,
+}
+
+// The total up to q of a curve that passed its tests, +0.0 where its record is not legal, sought from a place that it is likely to be near. The number is
+// taken out of the record's answer at once: what is handed on with its mark is copied in bytes, and a strip then takes a fifth longer.
+fn total_near(xs: &[f64], curve: Curve, tags: &[u16], slots: &[f64], near: usize, q: f64) -> Total
+    requires { (first (curve_tests xs.now (length tags.now) (length slots.now)) ≡ Ok tt) × (near + 1 < length xs.now) }
+    ensures number { result.number ≡ or_zero (answer_in (λ s. primitive s q) (covering xs.now curve tags.now slots.now q)) }
+    ensures place { result.place + 1 < length xs.now }
+{
+    let end = xs[xs.len() - 1];
+    if end <= q {
+        return Total {
+            number: tail_number(curve, Wanted::Total, q),
+            place: near,
+        };
+    }
+    let place = place_from(xs, q, near);
+    let number = or_zero(record_number(Wanted::Total, tags, slots, place, q));
+    Total { number, place }
 }
 
 // Writes the prices of strips that were not refused, each end found from the place of the one before it.
@@ -86,9 +110,9 @@ fn fill(
     adjoining: bool,
     out: &mut [f64],
 )
-    requires slots_value { (first (curve_tests xs.now (length tags.now) (length slots.now)) ≡ Accepted) × (length starts.now ≡ length ends.now) }
+    requires slots_value { (first (curve_tests xs.now (length tags.now) (length slots.now)) ≡ Ok tt) × (length starts.now ≡ length ends.now) }
     requires k_value { adjoining ≡ true → (k : ℕ) → k + 1 < length starts.now → at starts.now (k + 1) ≡ at ends.now k }
-    requires ends_value { (strips_verdict xs.now curve tags.now slots.now (length starts.now) (at starts.now) (at ends.now) ≡ Answered) × (length starts.now ≤ length out.old) }
+    requires ends_value { (strips_verdict xs.now curve tags.now slots.now (length starts.now) (at starts.now) (at ends.now) ≡ Ok tt) × (length starts.now ≤ length out.old) }
     ensures { out.new ≡ strips_after xs.now curve tags.now slots.now (length starts.now) (at starts.now) (at ends.now) out.old }
 {
     let mut place: usize = 0;
@@ -98,17 +122,14 @@ fn fill(
         let b = ends[k];
         let known = adjoining && 0 < k;
         if !known {
-            let from = number_near(Wanted::Total, xs, curve, tags, slots, place, a);
-            let answer = from.answer;
-            before = answer.or_zero();
+            let from = total_near(xs, curve, tags, slots, place, a);
+            before = from.number;
             place = from.place;
         }
-        let to = number_near(Wanted::Total, xs, curve, tags, slots, place, b);
-        let answer = to.answer;
-        let total = answer.or_zero();
-        out[k] = (total - before) / (b - a);
+        let to = total_near(xs, curve, tags, slots, place, b);
+        out[k] = (to.number - before) / (b - a);
         place = to.place;
-        before = total;
+        before = to.number;
     }
 }
 
@@ -123,28 +144,18 @@ fn priced(
     ends: &[f64],
     adjoining: bool,
     out: &mut [f64],
-) -> ManyAnswer
+) -> Result<(), ManyRefusal>
     requires starts_len { length starts.now ≡ length ends.now }
     requires k_value { adjoining ≡ true → (k : ℕ) → k + 1 < length starts.now → at starts.now (k + 1) ≡ at ends.now k }
     ensures { pair result out.new ≡ strips_outcome xs.now curve tags.now slots.now (length starts.now) (at starts.now) (at ends.now) out.old }
 {
-    match curve_verdict(xs, tags.len(), slots.len()) {
-        Verdict::Refused(refusal) => ManyAnswer::Refused(refusal),
-        Verdict::Accepted => {
-            if out.len() < starts.len() {
-                return ManyAnswer::Refused(Refusal::BufferTooShort);
-            }
-            let verdict = strips_verdict(xs, curve, tags, slots, starts, ends, adjoining);
-            match verdict {
-                ManyAnswer::Refused(_) => verdict,
-                ManyAnswer::RefusedAt(_, _) => verdict,
-                ManyAnswer::Answered => {
-                    fill(xs, curve, tags, slots, starts, ends, adjoining, out);
-                    verdict
-                }
-            }
-        }
+    curve_verdict(xs, tags.len(), slots.len())?;
+    if out.len() < starts.len() {
+        return Err(ManyRefusal::Whole(Refusal::BufferTooShort));
     }
+    strips_verdict(xs, curve, tags, slots, starts, ends, adjoining)?;
+    fill(xs, curve, tags, slots, starts, ends, adjoining, out);
+    Ok(())
 }
 
 // The average price from each start to the end beside it, each as `strip` answers it.
@@ -156,11 +167,11 @@ pub fn strips(
     starts: &[f64],
     ends: &[f64],
     out: &mut [f64],
-) -> ManyAnswer
+) -> Result<(), ManyRefusal>
     ensures { pair result out.new ≡ pairs_outcome xs.now curve tags.now slots.now starts.now ends.now out.old }
 {
     if starts.len() != ends.len() {
-        return ManyAnswer::Refused(Refusal::LengthsDiffer);
+        return Err(ManyRefusal::Whole(Refusal::LengthsDiffer));
     }
     priced(xs, curve, tags, slots, starts, ends, false, out)
 }
@@ -173,7 +184,7 @@ pub fn run(
     slots: &[f64],
     edges: &[f64],
     out: &mut [f64],
-) -> ManyAnswer
+) -> Result<(), ManyRefusal>
     ensures { pair result out.new ≡ run_outcome xs.now curve tags.now slots.now edges.now out.old }
 {
     if edges.len() == 0 {

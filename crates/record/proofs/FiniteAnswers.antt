@@ -1,11 +1,12 @@
 -- A record of ordinary size answers finite numbers: at a place of ordinary size its price is within 2 ^ 1000, and its total within 2 ^ 960.
 use Prim.Native.Nat.{ℕ}
-use mathlib.Core.Bool.{true}
+use mathlib.Core.Bool.{true, false, ◌&&◌}
 use mathlib.Core.List.{List}
 use mathlib.Core.Path.{◌≡◌, refl}
 use lib.Dec.{T, ltb, leb, ltb→lt}
 use lib.Ieee.{Float}
 use lib.ListN.{length}
+use Rattle.std.specs.Prelude.{Option, Some, None}
 use borrow.Author.Tests.{le-ltb, leb-true}
 use Rattle.numbers.specs.Sizes.{field_count}
 use Rattle.numbers.specs.Words.{◌⊖◌, one, ordinary_size, ordinary_divisor}
@@ -19,39 +20,34 @@ use Rattle.convex.proofs.Ordinary as convex_laws
 use Rattle.quadratic.proofs.Ordinary as quadratic_laws
 use Rattle.section.proofs.Ordinary.{Constant, Gradient, OrdinaryQuadratic, OrdinaryConvex, Ordinary, section_value, section_primitive}
 use Rattle.section.specs.Section.{value, primitive}
+use Rattle.section.specs.declared.quadratic_part.QuadraticPart.{QuadraticPart}
 use Rattle.section.specs.declared.quadratic_part.QuadraticPart.TheVariants as quadratic
 use Rattle.section.specs.declared.convex_monotone_part.ConvexMonotonePart.TheVariants as convex
 use Rattle.section.specs.declared.section.Section.{Section}
-use Rattle.record.specs.Tag.{quadratic_named, other_named}
+use Rattle.record.specs.Tag.{quadratic_named, other_named, of_kinds}
 use Rattle.record.specs.Reading.{slot, fourth_in, quadratic_from, other_from, joined, read_section}
 use Rattle.record.specs.Ordinary.{ordinary_quadratic, ordinary_fourth, ordinary_other, ordinary_slots, ordinary_record}
 use Rattle.record.specs.declared.tag.QuadraticKind.{QuadraticKind}
 use Rattle.record.specs.declared.tag.QuadraticKind.TheVariants as quadratic_kind
 use Rattle.record.specs.declared.tag.OtherKind.{OtherKind}
 use Rattle.record.specs.declared.tag.OtherKind.TheVariants as other_kind
-use Rattle.record.specs.declared.reading.QuadraticFound.{QuadraticFound}
-use Rattle.record.specs.declared.reading.QuadraticFound.TheVariants as maybe_quadratic
 use Rattle.record.specs.declared.reading.OtherFound.{OtherFound}
 use Rattle.record.specs.declared.reading.OtherFound.TheVariants as maybe_other
-use Rattle.record.specs.declared.reading.Found.{Found}
-use Rattle.record.specs.declared.reading.Found.TheVariants as found
 
 -- what was read is of ordinary size, where something was
-abbrev QuadraticRead : QuadraticFound → Type 0
-QuadraticRead maybe_quadratic.Absent = Unit {0}
-QuadraticRead (maybe_quadratic.Part p) = OrdinaryQuadratic p
-QuadraticRead maybe_quadratic.Unknown = Unit {0}
+abbrev QuadraticRead : Option QuadraticPart → Type 0
+QuadraticRead None = Unit {0}
+QuadraticRead (Some p) = OrdinaryQuadratic p
 
 abbrev OtherRead : OtherFound → Type 0
 OtherRead maybe_other.Absent = Unit {0}
 OtherRead (maybe_other.Constant s) = Constant s
 OtherRead (maybe_other.Gradient s) = Gradient s
 OtherRead (maybe_other.Convex c) = OrdinaryConvex c
-OtherRead maybe_other.Unknown = Unit {0}
 
-abbrev Read : Found → Type 0
-Read (found.Section k) = Ordinary k
-Read found.Illegal = Unit {0}
+abbrev Read : Option Section → Type 0
+Read (Some k) = Ordinary k
+Read None = Unit {0}
 
 module _ (s : List Float) (sizes : ordinary_slots s ≡ true) where
   at : (i : ℕ) → T (ltb i field_count) → Within 80 (slot s i)
@@ -75,7 +71,6 @@ module _ (s : List Float) (sizes : ordinary_slots s ≡ true) where
   quadratic_read quadratic_kind.QuadraticMinSplit h =
       let p = and_split (ordinary_divisor (slot s 4 ⊖ slot s 1)) (ordinary_divisor (slot s 12)) h in
       record { fields = min_fields; stretch = at 9 tt; length_low = min_length p.0; ratio_low = λ split. divisor_low (slot s 12) (at 12 tt) p.1 }
-  quadratic_read quadratic_kind.Unknown h = tt
 
   -- ---- the other part
   convex_fields : ordinary_divisor (slot s 14) ≡ true → convex_laws.Fields (slot s 13) (slot s 14) (slot s 15) (slot s 16) (slot s 17) (slot s 18) (slot s 19)
@@ -118,26 +113,31 @@ module _ (s : List Float) (sizes : ordinary_slots s ≡ true) where
   other_read other_kind.ConvexMonotone4MinSplit h =
       let p = and_split (ordinary_fourth s) (ordinary_divisor (slot s 21)) h in
       record { base = fourth_read p.0; ratio = at 21 tt; ratio_low = λ split. divisor_low (slot s 21) (at 21 tt) p.1 }
-  other_read other_kind.Unknown h = tt
 
 -- ---- both as one section
-joined_read : {w : Float} → Within 80 w → (p : QuadraticFound) (o : OtherFound) → QuadraticRead p → OtherRead o → Read (joined w p o)
+joined_read : {w : Float} → Within 80 w → (p : Option QuadraticPart) (o : OtherFound) → QuadraticRead p → OtherRead o → Read (joined w p o)
 unfolding joined
-joined_read ww maybe_quadratic.Unknown o q r = tt
-joined_read ww maybe_quadratic.Absent maybe_other.Absent q r = tt
-joined_read ww maybe_quadratic.Absent maybe_other.Unknown q r = tt
-joined_read ww maybe_quadratic.Absent (maybe_other.Constant s) q r = r
-joined_read ww maybe_quadratic.Absent (maybe_other.Gradient s) q r = r
-joined_read ww maybe_quadratic.Absent (maybe_other.Convex (convex.ConvexMonotone2 c)) q r = r
-joined_read ww maybe_quadratic.Absent (maybe_other.Convex (convex.ConvexMonotone3 c)) q r = r
-joined_read ww maybe_quadratic.Absent (maybe_other.Convex (convex.ConvexMonotone4 c)) q r = r
-joined_read ww maybe_quadratic.Absent (maybe_other.Convex (convex.ConvexMonotone4Min c)) q r = r
-joined_read ww (maybe_quadratic.Part (quadratic.Quadratic p)) maybe_other.Absent q r = q
-joined_read ww (maybe_quadratic.Part (quadratic.QuadraticMin p)) maybe_other.Absent q r = q
-joined_read ww (maybe_quadratic.Part p) maybe_other.Unknown q r = tt
-joined_read ww (maybe_quadratic.Part p) (maybe_other.Constant s) q r = tt
-joined_read ww (maybe_quadratic.Part p) (maybe_other.Gradient s) q r = tt
-joined_read ww (maybe_quadratic.Part p) (maybe_other.Convex c) q r = record { weight = ww; quadratic = q; convex = r }
+joined_read ww None maybe_other.Absent q r = tt
+joined_read ww None (maybe_other.Constant s) q r = r
+joined_read ww None (maybe_other.Gradient s) q r = r
+joined_read ww None (maybe_other.Convex (convex.ConvexMonotone2 c)) q r = r
+joined_read ww None (maybe_other.Convex (convex.ConvexMonotone3 c)) q r = r
+joined_read ww None (maybe_other.Convex (convex.ConvexMonotone4 c)) q r = r
+joined_read ww None (maybe_other.Convex (convex.ConvexMonotone4Min c)) q r = r
+joined_read ww (Some (quadratic.Quadratic p)) maybe_other.Absent q r = q
+joined_read ww (Some (quadratic.QuadraticMin p)) maybe_other.Absent q r = q
+joined_read ww (Some p) (maybe_other.Constant s) q r = tt
+joined_read ww (Some p) (maybe_other.Gradient s) q r = tt
+joined_read ww (Some p) (maybe_other.Convex c) q r = record { weight = ww; quadratic = q; convex = r }
+
+kinds_read : (s : List Float) → ordinary_slots s ≡ true → (q : Option QuadraticKind) (o : Option OtherKind) →
+    of_kinds false (λ q o. ordinary_quadratic q s && ordinary_other o s) q o ≡ true →
+    Read (of_kinds None (λ q o. joined (slot s 0) (quadratic_from q s) (other_from o s)) q o)
+kinds_read s z (Some q) (Some o) h =
+    let d = and_split (ordinary_quadratic q s) (ordinary_other o s) h in
+    joined_read (at s z 0 tt) (quadratic_from q s) (other_from o s) (quadratic_read s z q d.0) (other_read s z o d.1)
+kinds_read s z (Some q) None h = tt
+kinds_read s z None o h = tt
 
 module _ (tag : ℕ) (s : List Float) where
   record_read : ordinary_record tag s ≡ true → Read (read_section tag s)
@@ -145,14 +145,11 @@ module _ (tag : ℕ) (s : List Float) where
   record_read h =
       let n = and_split (leb field_count (length s)) _ h in
       let z = and_split (ordinary_slots s) _ n.1 in
-      let d = and_split (ordinary_quadratic (quadratic_named tag) s) (ordinary_other (other_named tag) s) z.1 in
-      rw (le-ltb (length s) field_count (leb-true field_count (length s) n.0))
-      (joined_read (at s z.0 0 tt) (quadratic_from (quadratic_named tag) s) (other_from (other_named tag) s)
-      (quadratic_read s z.0 (quadratic_named tag) d.0) (other_read s z.0 (other_named tag) d.1))
+      rw (le-ltb (length s) field_count (leb-true field_count (length s) n.0)) (kinds_read s z.0 (quadratic_named tag) (other_named tag) z.1)
 
   module _ (q : Float) (k : Section) where
-    pub ordinary_value : ordinary_record tag s ≡ true → ordinary_size q ≡ true → read_section tag s ≡ found.Section k → Within 1000 (value k q)
+    pub ordinary_value : ordinary_record tag s ≡ true → ordinary_size q ≡ true → read_section tag s ≡ Some k → Within 1000 (value k q)
     ordinary_value h o e = section_value (size_within q o) k (rw e at (record_read h))
 
-    pub ordinary_primitive : ordinary_record tag s ≡ true → ordinary_size q ≡ true → read_section tag s ≡ found.Section k → Within 960 (primitive k q)
+    pub ordinary_primitive : ordinary_record tag s ≡ true → ordinary_size q ≡ true → read_section tag s ≡ Some k → Within 960 (primitive k q)
     ordinary_primitive h o e = section_primitive (size_within q o) k (rw e at (record_read h))

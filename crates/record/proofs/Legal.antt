@@ -2,32 +2,30 @@
 use Prim.Native.Nat.{ℕ, zero, suc, ◌+◌, ◌*◌, ◌%◌, ◌^◌, ◌≤◌, ◌<◌}
 use native.Mathlib.Omega.{arith}
 use mathlib.Core.Bool.{Bool, true, false, cond, ◌&&◌}
-use mathlib.Core.List.{List}
+use mathlib.Core.List.{List, [], ◌∷◌}
 use mathlib.Core.Logic.{⊎_elim}
 use mathlib.Core.Path.{◌≡◌, refl, sym, ap, ◌∙◌}
 use native.Mathlib.Nat.{add-zero, add-suc, zero-add}
-use borrow.Author.Tests.{lt-ltb, le-ltb, lt-leb, le-leb}
+use borrow.Author.Tests.{lt-ltb, le-ltb, lt-leb, le-leb, ne_eqb}
 use lib.Ieee.{Float}
 use lib.ListN.{length}
+use Rattle.std.specs.Prelude.{Option, Some, None}
 use Rattle.numbers.specs.Sizes.{field_count}
 use Rattle.numbers.proofs.Ways.{never, lt_or_le}
 use Rattle.section.specs.declared.quadratic_part.QuadraticPart.{QuadraticPart}
+use Rattle.section.specs.declared.section.Section.{Section}
 use Rattle.section.specs.declared.quadratic_part.QuadraticPart.TheVariants as quadratic
-use Rattle.record.specs.Tag.{other_bits, other_kinds, quadratic_named, other_named}
+use Rattle.record.specs.Tag.{other_bits, other_kinds, kind_with, quadratic_named, other_named, of_kinds}
 use Rattle.record.specs.Legal.{alone, beside, pairs, legal, legal_record}
 use Rattle.record.specs.Reading.{quadratic_in, quadratic_min_in, quadratic_from, other_from, joined, read_section, is_section}
 use Rattle.record.specs.declared.tag.QuadraticKind.{QuadraticKind}
 use Rattle.record.specs.declared.tag.QuadraticKind.TheVariants as quadratic_kind
 use Rattle.record.specs.declared.tag.OtherKind.{OtherKind}
 use Rattle.record.specs.declared.tag.OtherKind.TheVariants as other_kind
-use Rattle.record.specs.declared.reading.QuadraticFound.TheVariants as maybe_quadratic
-use Rattle.record.specs.declared.reading.Found.{Found}
-use Rattle.record.specs.declared.reading.Found.TheVariants as found
-use Rattle.record.proofs.Named.{none_with}
 
 -- two parts make a section where their kinds do, whatever their numbers are
 module _ (w : Float) (s : List Float) where
-  alone_joined : (o : OtherKind) → is_section (joined w maybe_quadratic.Absent (other_from o s)) ≡ alone o
+  alone_joined : (o : OtherKind) → is_section (joined w None (other_from o s)) ≡ alone o
   unfolding joined other_from
   alone_joined other_kind.Absent = refl
   alone_joined other_kind.EverywhereConstant = refl
@@ -37,9 +35,8 @@ module _ (w : Float) (s : List Float) where
   alone_joined other_kind.ConvexMonotone4 = refl
   alone_joined other_kind.ConvexMonotone4Min = refl
   alone_joined other_kind.ConvexMonotone4MinSplit = refl
-  alone_joined other_kind.Unknown = refl
 
-  beside_joined : (p : QuadraticPart) (o : OtherKind) → is_section (joined w (maybe_quadratic.Part p) (other_from o s)) ≡ beside o
+  beside_joined : (p : QuadraticPart) (o : OtherKind) → is_section (joined w (Some p) (other_from o s)) ≡ beside o
   unfolding joined other_from
   beside_joined p other_kind.Absent = refl
   beside_joined p other_kind.EverywhereConstant = refl
@@ -49,7 +46,6 @@ module _ (w : Float) (s : List Float) where
   beside_joined p other_kind.ConvexMonotone4 = refl
   beside_joined p other_kind.ConvexMonotone4Min = refl
   beside_joined p other_kind.ConvexMonotone4MinSplit = refl
-  beside_joined p other_kind.Unknown = refl
 
   pairs_joined : (q : QuadraticKind) (o : OtherKind) → is_section (joined w (quadratic_from q s) (other_from o s)) ≡ pairs q o
   unfolding joined quadratic_from
@@ -57,20 +53,24 @@ module _ (w : Float) (s : List Float) where
   pairs_joined quadratic_kind.Quadratic o = beside_joined (quadratic.Quadratic (quadratic_in s)) o
   pairs_joined quadratic_kind.QuadraticMin o = beside_joined (quadratic.QuadraticMin (quadratic_min_in false s)) o
   pairs_joined quadratic_kind.QuadraticMinSplit o = beside_joined (quadratic.QuadraticMin (quadratic_min_in true s)) o
-  pairs_joined quadratic_kind.Unknown o = refl
+
+  kinds_joined : (q : Option QuadraticKind) (o : Option OtherKind) → is_section (of_kinds None (λ q o. joined w (quadratic_from q s) (other_from o s)) q o) ≡ of_kinds false pairs q o
+  kinds_joined (Some q) (Some o) = pairs_joined q o
+  kinds_joined (Some q) None = refl
+  kinds_joined None o = refl
 
 -- a tag is read as a section exactly where document 01 calls it legal
 pub legal_exactly : (t : ℕ) (s : List Float) → field_count ≤ length s → is_section (read_section t s) ≡ legal t
 unfolding read_section
-legal_exactly t s h = simp (le-ltb (length s) field_count h) (pairs_joined _ s (quadratic_named t) (other_named t))
+legal_exactly t s h = simp (le-ltb (length s) field_count h) (kinds_joined _ s (quadratic_named t) (other_named t))
 
-pub short_unread : (t : ℕ) (s : List Float) → length s < field_count → read_section t s ≡ found.Illegal
+pub short_unread : (t : ℕ) (s : List Float) → length s < field_count → read_section t s ≡ None
 unfolding read_section
 short_unread t s h = simp (lt-ltb (length s) field_count h)
 
-no_section : (f : Found) → is_section f ≡ false → f ≡ found.Illegal
-no_section (found.Section s) h = never refl h
-no_section found.Illegal h = refl
+no_section : (f : Option Section) → is_section f ≡ false → f ≡ None
+no_section (Some s) h = never refl h
+no_section None h = refl
 
 -- a record is read as a section exactly where it is legal
 pub legal_is_read : (t : ℕ) (s : List Float) → is_section (read_section t s) ≡ legal_record t s
@@ -81,7 +81,7 @@ legal_is_read t s =
     (lt_or_le (length s) field_count)
 
 -- an illegal tag reads nothing, however many slots there are
-pub illegal_reads_nothing : (t : ℕ) (s : List Float) → legal t ≡ false → read_section t s ≡ found.Illegal
+pub illegal_reads_nothing : (t : ℕ) (s : List Float) → legal t ≡ false → read_section t s ≡ None
 illegal_reads_nothing t s e =
     ⊎_elim
     (λ (l : length s < field_count). short_unread t s l)
@@ -92,21 +92,30 @@ illegal_reads_nothing t s e =
 abbrev spare : ℕ → ℕ
 spare t = t % 2 ^ 7
 
-unknown_illegal : (q : QuadraticKind) → pairs q other_kind.Unknown ≡ false
-unknown_illegal quadratic_kind.Absent = refl
-unknown_illegal quadratic_kind.Quadratic = refl
-unknown_illegal quadratic_kind.QuadraticMin = refl
-unknown_illegal quadratic_kind.QuadraticMinSplit = refl
-unknown_illegal quadratic_kind.Unknown = refl
+unnamed_illegal : (q : Option QuadraticKind) → of_kinds false pairs q None ≡ false
+unnamed_illegal (Some q) = refl
+unnamed_illegal None = refl
 
-spare_unknown : (t : ℕ) → (spare t ≡ 0 → ⊥) → other_named t ≡ other_kind.Unknown
+bits_unspared : (o : OtherKind) → spare (other_bits o) ≡ 0
+bits_unspared other_kind.Absent = refl
+bits_unspared other_kind.EverywhereConstant = refl
+bits_unspared other_kind.ConstantGrad = refl
+bits_unspared other_kind.ConvexMonotone2 = refl
+bits_unspared other_kind.ConvexMonotone3 = refl
+bits_unspared other_kind.ConvexMonotone4 = refl
+bits_unspared other_kind.ConvexMonotone4Min = refl
+bits_unspared other_kind.ConvexMonotone4MinSplit = refl
+
+none_of : (t : ℕ) → (spare t ≡ 0 → ⊥) → (kinds : List OtherKind) → kind_with other_bits kinds (t % 2 ^ 12) ≡ None
+none_of t k [] = refl
+none_of t k (o ∷ kinds) = rw (ne_eqb (t % 2 ^ 12) (other_bits o) (λ e. k (omega (arith, e, bits_unspared o)))) (none_of t k kinds)
+
+spare_unnamed : (t : ℕ) → (spare t ≡ 0 → ⊥) → other_named t ≡ None
 unfolding other_named
-spare_unknown t k =
-    none_with other_kind.Unknown other_bits (t % 2 ^ 12) (Unit {0}) other_kinds
-    ((((((((tt, λ e. k (omega arith)), λ e. k (omega arith)), λ e. k (omega arith)), λ e. k (omega arith)), λ e. k (omega arith)), λ e. k (omega arith)), λ e. k (omega arith)), λ e. k (omega arith))
+spare_unnamed t k = none_of t k other_kinds
 
 spare_illegal : (t : ℕ) → (spare t ≡ 0 → ⊥) → legal t ≡ false
-spare_illegal t k = rw (spare_unknown t k) (unknown_illegal (quadratic_named t))
+spare_illegal t k = rw (spare_unnamed t k) (unnamed_illegal (quadratic_named t))
 
 -- how many tags of a row are legal, and of all: 25
 abbrev count : ℕ → (ℕ → Bool) → ℕ

@@ -7,5 +7,4 @@ pub mod Numbers
 pub mod Cells
 pub mod InRange
 pub mod Tags
-pub mod Named
 pub mod FiniteAnswers

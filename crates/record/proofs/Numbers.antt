@@ -1,10 +1,12 @@
 -- A record's number, worked out from its parts' numbers, is that of the section that it holds.
-use Prim.Native.Nat.{ℕ, ◌≤◌, ◌<◌}
+use Prim.Native.Nat.{ℕ}
 use mathlib.Core.Path.{◌≡◌, refl, ap, ◌∙◌}
 use mathlib.Core.List.{List}
 use lib.Ieee.{Float}
-use lib.ListN.{length}
-use borrow.Author.Tests.{lt-ltb, le-ltb}
+use Rattle.std.specs.Array.{IsFirstChunk}
+use Rattle.std.specs.Prelude.{Option, Some, None}
+use Rattle.numbers.specs.declared.Marked.{Marked}
+use Rattle.record.proofs.Fields.{first_length, read_by_fields, read_by_kinds}
 use Rattle.numbers.specs.Marks.{mark}
 use Rattle.numbers.specs.Words.{◌⊕◌, ◌⊖◌, ◌⊗◌, one}
 use Rattle.section.specs.declared.quadratic_part.QuadraticPart.{QuadraticPart}
@@ -17,12 +19,8 @@ use Rattle.section.specs.Combination as combination
 use Rattle.section.specs.QuadraticPart as quadratic_part
 use Rattle.section.specs.ConvexMonotonePart as convex_part
 use Rattle.section.specs.Section.{value, primitive}
-use Rattle.record.specs.declared.reading.QuadraticFound.{QuadraticFound}
-use Rattle.record.specs.declared.reading.QuadraticFound.TheVariants as maybe_quadratic
 use Rattle.record.specs.declared.reading.OtherFound.{OtherFound}
 use Rattle.record.specs.declared.reading.OtherFound.TheVariants as maybe_other
-use Rattle.record.specs.declared.number.Answer.{Answer}
-use Rattle.record.specs.declared.number.Answer.TheVariants as answer
 use Rattle.record.specs.declared.number.Part.{Part}
 use Rattle.record.specs.declared.tag.QuadraticKind.{QuadraticKind}
 use Rattle.record.specs.declared.tag.OtherKind.{OtherKind}
@@ -58,28 +56,21 @@ pub primitive_weighs : (q : Float) → Weighs (λ s. primitive s q)
 primitive_weighs q p c w = (both_weigh q p c w).1
 
 module _ (f : Section → Float) (weighs : Weighs f) (w : Float) where
-  pub together_answers : (p : QuadraticFound) (o : OtherFound) → together w (quadratic_number f p) (other_number f o) ≡ answer_in f (joined w p o)
-  unfolding together quadratic_number other_number joined
-  together_answers maybe_quadratic.Unknown o = refl
-  together_answers maybe_quadratic.Absent maybe_other.Absent = refl
-  together_answers maybe_quadratic.Absent maybe_other.Unknown = refl
-  together_answers maybe_quadratic.Absent (maybe_other.Constant s) = refl
-  together_answers maybe_quadratic.Absent (maybe_other.Gradient s) = refl
-  together_answers maybe_quadratic.Absent (maybe_other.Convex c) = refl
-  together_answers (maybe_quadratic.Part p) maybe_other.Absent = refl
-  together_answers (maybe_quadratic.Part p) maybe_other.Unknown = refl
-  together_answers (maybe_quadratic.Part p) (maybe_other.Constant s) = refl
-  together_answers (maybe_quadratic.Part p) (maybe_other.Gradient s) = refl
-  together_answers (maybe_quadratic.Part p) (maybe_other.Convex c) = ap (λ (v : Float). answer.Number (mark v)) (weighs p c w)
+  pub together_answers : (p : Option QuadraticPart) (o : OtherFound) → together w (quadratic_number f p) (other_number f o) ≡ answer_in f (joined w p o)
+  unfolding other_number joined
+  together_answers None maybe_other.Absent = refl
+  together_answers None (maybe_other.Constant s) = refl
+  together_answers None (maybe_other.Gradient s) = refl
+  together_answers None (maybe_other.Convex c) = refl
+  together_answers (Some p) maybe_other.Absent = refl
+  together_answers (Some p) (maybe_other.Constant s) = refl
+  together_answers (Some p) (maybe_other.Gradient s) = refl
+  together_answers (Some p) (maybe_other.Convex c) = ap (λ (v : Float). Some (mark v)) (weighs p c w)
 
--- the whole record: too few slots, or the two parts that its tag names
-module _ (f : Section → Float) (tag : ℕ) (s : List Float) where
-  pub short_answers : length s < field_count → answer.Illegal ≡ answer_in f (read_section tag s)
-  unfolding read_section
-  short_answers h = simp (lt-ltb _ _ h)
-
-  module _ {quadratic_kind : QuadraticKind} {other_kind : OtherKind} {p o : Part} {a : Answer} where
-    pub parts_answer : Weighs f → field_count ≤ length s → quadratic_kind ≡ quadratic_named tag → p ≡ quadratic_number f (quadratic_from quadratic_kind s) →
-        other_kind ≡ other_named tag → o ≡ other_number f (other_from other_kind s) → a ≡ together (slot s 0) p o → a ≡ answer_in f (read_section tag s)
-    unfolding read_section
-    parts_answer weighs h k e l g t = simp (le-ltb _ _ h) (t ∙ rw (e, k, g, l) (together_answers f weighs (slot s 0) _ _))
+-- the whole record, by the two kinds that its tag names and its first fields
+module _ (f : Section → Float) (tag : ℕ) {s t : List Float} (first : IsFirstChunk s t field_count) where
+  module _ {quadratic_kind : QuadraticKind} {other_kind : OtherKind} {p : Option Float} {o : Part} {a : Option Marked} where
+    pub parts_answer : Weighs f → Some quadratic_kind ≡ quadratic_named tag → p ≡ quadratic_number f (quadratic_from quadratic_kind t) →
+        Some other_kind ≡ other_named tag → o ≡ other_number f (other_from other_kind t) → a ≡ together (slot t 0) p o → a ≡ answer_in f (read_section tag s)
+    parts_answer weighs k e l g h =
+        h ∙ rw (e, g) (together_answers f weighs (slot t 0) _ _ ∙ ap (answer_in f) (read_by_kinds tag t (first_length first) k l ∙ read_by_fields first tag))

@@ -9,6 +9,7 @@ use borrow.Author.Tests.{le-ltb}
 use lib.Ieee.{Float, nan}
 use lib.ListN.{length, get_or, length-append, get_or-append}
 use lib.Seq.{get_or-append-add}
+use Rattle.std.specs.Prelude.{Option, Some, None}
 use Rattle.numbers.specs.Sizes.{field_count, slot_count}
 use Rattle.section.specs.Section.{value}
 use Rattle.section.specs.Combination as combination
@@ -21,12 +22,10 @@ use Rattle.section.specs.declared.convex_monotone_part.ConvexMonotonePart.{Conve
 use Rattle.section.specs.declared.convex_monotone_part.ConvexMonotonePart.TheVariants as convex
 use Rattle.section.specs.declared.section.Section.{Section}
 use Rattle.section.specs.declared.section.Section.TheVariants as section
-use Rattle.record.specs.Tag.{tag_of, quadratic_named, other_named}
+use Rattle.record.specs.Tag.{tag_of, quadratic_named, other_named, of_kinds}
 use Rattle.record.specs.Slots.{slots_of, quadratic_slots, convex_slots, layout, record_of}
 use Rattle.record.specs.Knots.{left_price, right_price, total_after}
 use Rattle.record.specs.Reading.{slot, quadratic_from, other_from, joined, read_section}
-use Rattle.record.specs.declared.reading.Found.{Found}
-use Rattle.record.specs.declared.reading.Found.TheVariants as found
 
 -- a weight, a quadratic part and another part fill its fields
 parts_length : (w : Float) (p : QuadraticPart) (c : ConvexMonotonePart) → length (layout w (quadratic_slots p) (convex_slots c)) ≡ field_count
@@ -54,13 +53,13 @@ slots_length (section.QuadraticMin s) = refl
 slots_length (section.Combination s) = parts_length s.quadraticity s.quadratic_helper s.conv_mono_helper
 
 -- what is read where the slots are there
-abbrev joined_from : ℕ → List Float → Found
-joined_from tag s = joined (slot s 0) (quadratic_from (quadratic_named tag) s) (other_from (other_named tag) s)
+abbrev joined_from : ℕ → List Float → Option Section
+joined_from tag s = of_kinds None (λ q o. joined (slot s 0) (quadratic_from q s) (other_from o s)) (quadratic_named tag) (other_named tag)
 
 -- whatever stands behind the fields
 module _ (more : List Float) where
   abbrev Back : Section → Type 0
-  Back s = joined_from (tag_of s) (slots_of s ++ more) ≡ found.Section s
+  Back s = joined_from (tag_of s) (slots_of s ++ more) ≡ Some s
 
   -- the Min kinds with their split flag written out: at a section's own flag each is the section itself
   abbrev with_split : Bool → QuadraticMin → QuadraticMin
@@ -144,7 +143,7 @@ module _ (more : List Float) where
   back (section.QuadraticMin s) = min_back s.split_region s
   back (section.Combination s) = both_back s.quadraticity s.quadratic_helper s.conv_mono_helper
 
-  pub round_trip : (s : Section) → read_section (tag_of s) (slots_of s ++ more) ≡ found.Section s
+  pub round_trip : (s : Section) → read_section (tag_of s) (slots_of s ++ more) ≡ Some s
   unfolding read_section
   round_trip s =
       let room : field_count ≤ length (slots_of s ++ more) = rw (length-append (slots_of s) more, slots_length s) (omega arith) in
@@ -156,7 +155,7 @@ module _ (s : Section) (left right total : Float) where
   unfolding record_of
   record_length = length-append (slots_of s) _ ∙ ap (λ (n : ℕ). n + 3) (slots_length s)
 
-  pub record_back : read_section (tag_of s) (record_of s left right total) ≡ found.Section s
+  pub record_back : read_section (tag_of s) (record_of s left right total) ≡ Some s
   unfolding record_of
   record_back = round_trip _ s
 

@@ -3,7 +3,7 @@ use mathlib.Core.Path.{◌∙◌, sym}
 use Rattle.numbers.specs.OneOutcome.{OneAnswer, OneOutcome}
 use Rattle.record.proofs.knots.knot_prices.Reads as knot-prices
 use Rattle.record.proofs.legality.legal_in.Reads as legal-in
-use Rattle.record.proofs.number.Answer.or_zero.Reads as answer-or-zero
+use Rattle.record.proofs.number.or_zero.Reads as or-zero
 use Rattle.record.proofs.number.value_in.Reads as value_in
 use Rattle.record.proofs.number.primitive_in.Reads as primitive-in
 use Rattle.record.proofs.ordinary.is_ordinary.Reads as is-ordinary
@@ -21,8 +21,8 @@ knot_prices_unique κ a r₁ r₂ s t p q = p ∙ sym q
 pub legal_in_unique : OneAnswer legal-in.Post
 legal_in_unique κ a r₁ r₂ s t p q = p ∙ sym q
 
-pub answer_or_zero_unique : OneAnswer answer-or-zero.Post
-answer_or_zero_unique κ a r₁ r₂ s t p q = p ∙ sym q
+pub or_zero_unique : OneAnswer or-zero.Post
+or_zero_unique κ a r₁ r₂ s t p q = p ∙ sym q
 
 pub value_in_unique : OneAnswer value_in.Post
 value_in_unique κ a r₁ r₂ s t p q = p ∙ sym q

@@ -1,7 +1,7 @@
 -- 01, Buffers and section records: which tags are legal
 use Rattle.std.specs.Prelude.{ℕ, Bool, true, false, ◌&&◌, List, leb, Float, length}
 use Rattle.numbers.specs.Sizes.{field_count}
-use Rattle.record.specs.Tag.{quadratic_named, other_named}
+use Rattle.record.specs.Tag.{quadratic_named, other_named, of_kinds}
 use Rattle.record.specs.declared.tag.QuadraticKind.{QuadraticKind}
 use Rattle.record.specs.declared.tag.QuadraticKind.TheVariants as quadratic_kind
 use Rattle.record.specs.declared.tag.OtherKind.{OtherKind}
@@ -17,7 +17,6 @@ alone other_kind.ConvexMonotone3 = true
 alone other_kind.ConvexMonotone4 = true
 alone other_kind.ConvexMonotone4Min = true
 alone other_kind.ConvexMonotone4MinSplit = true
-alone other_kind.Unknown = false
 
 -- with one, there need not be another, and it is of no constant kind
 abbrev pub beside : OtherKind → Bool
@@ -29,18 +28,16 @@ beside other_kind.ConvexMonotone3 = true
 beside other_kind.ConvexMonotone4 = true
 beside other_kind.ConvexMonotone4Min = true
 beside other_kind.ConvexMonotone4MinSplit = true
-beside other_kind.Unknown = false
 
 abbrev pub pairs : QuadraticKind → OtherKind → Bool
 pairs quadratic_kind.Absent o = alone o
 pairs quadratic_kind.Quadratic o = beside o
 pairs quadratic_kind.QuadraticMin o = beside o
 pairs quadratic_kind.QuadraticMinSplit o = beside o
-pairs quadratic_kind.Unknown o = false
 
--- a code that is not named, a split bit of another kind and a spare bit make a kind unknown
+-- a tag that names no kind, by a code, a split bit or a spare bit that has no meaning, is not legal
 abbrev pub legal : ℕ → Bool
-legal tag = pairs (quadratic_named tag) (other_named tag)
+legal tag = of_kinds false pairs (quadratic_named tag) (other_named tag)
 
 -- a record is legal where its tag is and its slots are there
 abbrev pub legal_record : ℕ → List Float → Bool

@@ -1,10 +1,8 @@
 -- 01, Buffers and section records: a section's slots as a part of the lent slots
-use Rattle.std.specs.Prelude.{ℕ, ◌-◌, ◌*◌, List, [], ◌∷◌, ltb, leb, Float, take, drop}
-use Rattle.refusal.specs.Refusal.{Test, ◌⇒◌, first}
+use Rattle.std.specs.Prelude.{ℕ, ◌-◌, ◌*◌, List, [], ◌∷◌, ltb, leb, Float, take, drop, Err, Ok}
+use Rattle.refusal.specs.Refusal.{Test, ◌⇒◌, first, Verdict}
 use Rattle.numbers.specs.Sizes.{slot_count}
 use Rattle.refusal.specs.declared.Refusal.TheVariants.{TooFewPoints, TooManyPoints, BufferTooShort, RecordNotLegal}
-use Rattle.refusal.specs.declared.Verdict.{Verdict}
-use Rattle.refusal.specs.declared.Verdict.TheVariants.{Accepted, Refused}
 
 -- refused in the order 4, 10, 11, 15
 abbrev pub record_tests : ℕ → ℕ → ℕ → List Test
@@ -19,5 +17,5 @@ abbrev pub record_verdict : ℕ → ℕ → ℕ → Verdict
 record_verdict points room number = first (record_tests points room number)
 
 abbrev pub record_part : Verdict → List Float → ℕ → List Float
-record_part Accepted slots number = take slot_count (drop (slot_count * number) slots)
-record_part (Refused r) slots number = []
+record_part (Ok tt) slots number = take slot_count (drop (slot_count * number) slots)
+record_part (Err r) slots number = []

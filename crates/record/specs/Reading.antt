@@ -1,5 +1,5 @@
 -- 01, Buffers and section records: a section from its tag and slots
-use Rattle.std.specs.Prelude.{ℕ, ◌*◌, Bool, true, false, cond, List, [], ltb, Float, length, get_or, take, drop}
+use Rattle.std.specs.Prelude.{ℕ, ◌*◌, Bool, true, false, cond, List, [], ltb, Float, length, get_or, take, drop, Option, Some, None, is_some}
 use Rattle.std.specs.Float.{nan}
 use Rattle.section.specs.declared.everywhere_constant.EverywhereConstant.{EverywhereConstant}
 use Rattle.section.specs.declared.constant_grad.ConstantGrad.{ConstantGrad}
@@ -9,6 +9,7 @@ use Rattle.convex.specs.declared.convex_monotone4.ConvexMonotone4.{ConvexMonoton
 use Rattle.convex.specs.declared.convex_monotone4_min.ConvexMonotone4Min.{ConvexMonotone4Min}
 use Rattle.quadratic.specs.declared.quadratic.Quadratic.{Quadratic}
 use Rattle.quadratic.specs.declared.quadratic_min.QuadraticMin.{QuadraticMin}
+use Rattle.section.specs.declared.quadratic_part.QuadraticPart.{QuadraticPart}
 use Rattle.section.specs.declared.quadratic_part.QuadraticPart.TheVariants as quadratic
 use Rattle.section.specs.declared.convex_monotone_part.ConvexMonotonePart.TheVariants as convex
 use Rattle.section.specs.declared.section.Section.{Section}
@@ -21,17 +22,13 @@ use Rattle.numbers.specs.Sizes.{field_count, slot_count}
 use Rattle.refusal.specs.Refusal.{number}
 use Rattle.refusal.specs.declared.Refusal.TheVariants.{RecordNotLegal}
 use Rattle.record.specs.Slots.{slots_of}
-use Rattle.record.specs.Tag.{quadratic_named, other_named, tag_of}
+use Rattle.record.specs.Tag.{quadratic_named, other_named, of_kinds, tag_of}
 use Rattle.record.specs.declared.tag.QuadraticKind.{QuadraticKind}
 use Rattle.record.specs.declared.tag.QuadraticKind.TheVariants as quadratic_kind
 use Rattle.record.specs.declared.tag.OtherKind.{OtherKind}
 use Rattle.record.specs.declared.tag.OtherKind.TheVariants as other_kind
-use Rattle.record.specs.declared.reading.QuadraticFound.{QuadraticFound}
-use Rattle.record.specs.declared.reading.QuadraticFound.TheVariants as maybe_quadratic
 use Rattle.record.specs.declared.reading.OtherFound.{OtherFound}
 use Rattle.record.specs.declared.reading.OtherFound.TheVariants as maybe_other
-use Rattle.record.specs.declared.reading.Found.{Found}
-use Rattle.record.specs.declared.reading.Found.TheVariants as found
 
 abbrev pub slot : List Float → ℕ → Float
 slot s i = get_or s i nan
@@ -102,12 +99,11 @@ abbrev pub fourth_min_in : Bool → List Float → ConvexMonotone4Min
 fourth_min_in split s = record { base = fourth_in s; split_region = split; x_ratio = slot s 21; x2 = slot s 22; x3 = slot s 23 }
 
 -- the part of each kind
-unfoldable pub quadratic_from : QuadraticKind → List Float → QuadraticFound
-quadratic_from quadratic_kind.Absent s = maybe_quadratic.Absent
-quadratic_from quadratic_kind.Quadratic s = maybe_quadratic.Part (quadratic.Quadratic (quadratic_in s))
-quadratic_from quadratic_kind.QuadraticMin s = maybe_quadratic.Part (quadratic.QuadraticMin (quadratic_min_in false s))
-quadratic_from quadratic_kind.QuadraticMinSplit s = maybe_quadratic.Part (quadratic.QuadraticMin (quadratic_min_in true s))
-quadratic_from quadratic_kind.Unknown s = maybe_quadratic.Unknown
+unfoldable pub quadratic_from : QuadraticKind → List Float → Option QuadraticPart
+quadratic_from quadratic_kind.Absent s = None
+quadratic_from quadratic_kind.Quadratic s = Some (quadratic.Quadratic (quadratic_in s))
+quadratic_from quadratic_kind.QuadraticMin s = Some (quadratic.QuadraticMin (quadratic_min_in false s))
+quadratic_from quadratic_kind.QuadraticMinSplit s = Some (quadratic.QuadraticMin (quadratic_min_in true s))
 
 unfoldable pub other_from : OtherKind → List Float → OtherFound
 other_from other_kind.Absent s = maybe_other.Absent
@@ -118,36 +114,31 @@ other_from other_kind.ConvexMonotone3 s = maybe_other.Convex (convex.ConvexMonot
 other_from other_kind.ConvexMonotone4 s = maybe_other.Convex (convex.ConvexMonotone4 (fourth_in s))
 other_from other_kind.ConvexMonotone4Min s = maybe_other.Convex (convex.ConvexMonotone4Min (fourth_min_in false s))
 other_from other_kind.ConvexMonotone4MinSplit s = maybe_other.Convex (convex.ConvexMonotone4Min (fourth_min_in true s))
-other_from other_kind.Unknown s = maybe_other.Unknown
 
-unfoldable pub joined : Float → QuadraticFound → OtherFound → Found
-joined w maybe_quadratic.Unknown o = found.Illegal
-joined w maybe_quadratic.Absent maybe_other.Absent = found.Illegal
-joined w maybe_quadratic.Absent maybe_other.Unknown = found.Illegal
-joined w maybe_quadratic.Absent (maybe_other.Constant s) = found.Section (section.EverywhereConstant s)
-joined w maybe_quadratic.Absent (maybe_other.Gradient s) = found.Section (section.ConstantGrad s)
-joined w maybe_quadratic.Absent (maybe_other.Convex c) = found.Section (convex_part.alone c)
-joined w (maybe_quadratic.Part q) maybe_other.Absent = found.Section (quadratic_part.alone q)
-joined w (maybe_quadratic.Part q) maybe_other.Unknown = found.Illegal
-joined w (maybe_quadratic.Part q) (maybe_other.Constant s) = found.Illegal
-joined w (maybe_quadratic.Part q) (maybe_other.Gradient s) = found.Illegal
-joined w (maybe_quadratic.Part q) (maybe_other.Convex c) = found.Section (section.Combination (combination.new q c w))
+unfoldable pub joined : Float → Option QuadraticPart → OtherFound → Option Section
+joined w None maybe_other.Absent = None
+joined w None (maybe_other.Constant s) = Some (section.EverywhereConstant s)
+joined w None (maybe_other.Gradient s) = Some (section.ConstantGrad s)
+joined w None (maybe_other.Convex c) = Some (convex_part.alone c)
+joined w (Some q) maybe_other.Absent = Some (quadratic_part.alone q)
+joined w (Some q) (maybe_other.Constant s) = None
+joined w (Some q) (maybe_other.Gradient s) = None
+joined w (Some q) (maybe_other.Convex c) = Some (section.Combination (combination.new q c w))
 
-unfoldable pub read_section : ℕ → List Float → Found
+unfoldable pub read_section : ℕ → List Float → Option Section
 unfolding quadratic_named other_named quadratic_from other_from joined
 read_section tag s =
-    cond (ltb (length s) field_count) found.Illegal
-    (joined (slot s 0) (quadratic_from (quadratic_named tag) s) (other_from (other_named tag) s))
+    cond (ltb (length s) field_count) None
+    (of_kinds None (λ q o. joined (slot s 0) (quadratic_from q s) (other_from o s)) (quadratic_named tag) (other_named tag))
 
-abbrev pub is_section : Found → Bool
-is_section (found.Section s) = true
-is_section found.Illegal = false
+abbrev pub is_section : Option Section → Bool
+is_section read = is_some read
 
 -- in the documents' numbers: 0 with the section's tag and slots, or 15 with none
-abbrev pub found_in_numbers : Found → ℕ × (ℕ × List Float)
-found_in_numbers (found.Section s) = pair 0 (pair (tag_of s) (slots_of s))
-found_in_numbers found.Illegal = pair (number RecordNotLegal) (pair 0 [])
+abbrev pub found_in_numbers : Option Section → ℕ × (ℕ × List Float)
+found_in_numbers (Some s) = pair 0 (pair (tag_of s) (slots_of s))
+found_in_numbers None = pair (number RecordNotLegal) (pair 0 [])
 
 -- the record of section i, of all records in a row
-abbrev pub record_at : List ℕ → List Float → ℕ → Found
+abbrev pub record_at : List ℕ → List Float → ℕ → Option Section
 record_at tags slots i = read_section (get_or tags i 0) (take slot_count (drop (slot_count * i) slots))

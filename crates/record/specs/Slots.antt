@@ -2,14 +2,6 @@
 use Rattle.std.specs.Prelude.{ℕ, List, [], ◌∷◌, ◌++◌, Float, replicate}
 use Rattle.numbers.specs.Words.{zero, one}
 use Rattle.section.specs.Section.{value}
-use Rattle.section.specs.declared.everywhere_constant.EverywhereConstant.{EverywhereConstant}
-use Rattle.section.specs.declared.constant_grad.ConstantGrad.{ConstantGrad}
-use Rattle.convex.specs.declared.convex_monotone2.ConvexMonotone2.{ConvexMonotone2}
-use Rattle.convex.specs.declared.convex_monotone3.ConvexMonotone3.{ConvexMonotone3}
-use Rattle.convex.specs.declared.convex_monotone4.ConvexMonotone4.{ConvexMonotone4}
-use Rattle.convex.specs.declared.convex_monotone4_min.ConvexMonotone4Min.{ConvexMonotone4Min}
-use Rattle.quadratic.specs.declared.quadratic.Quadratic.{Quadratic}
-use Rattle.quadratic.specs.declared.quadratic_min.QuadraticMin.{QuadraticMin}
 use Rattle.section.specs.declared.quadratic_part.QuadraticPart.{QuadraticPart}
 use Rattle.section.specs.declared.quadratic_part.QuadraticPart.TheVariants as quadratic
 use Rattle.section.specs.declared.convex_monotone_part.ConvexMonotonePart.{ConvexMonotonePart}

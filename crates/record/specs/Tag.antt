@@ -1,7 +1,5 @@
 -- 01, Buffers and section records: the tag
-use Rattle.std.specs.Prelude.{ℕ, ◌+◌, ◌*◌, ◌/◌, ◌%◌, ◌^◌, Bool, true, false, cond, not, ◌||◌, List, [], ◌∷◌, eqb}
-use Rattle.convex.specs.declared.convex_monotone4_min.ConvexMonotone4Min.{ConvexMonotone4Min}
-use Rattle.quadratic.specs.declared.quadratic_min.QuadraticMin.{QuadraticMin}
+use Rattle.std.specs.Prelude.{ℕ, ◌+◌, ◌*◌, ◌/◌, ◌%◌, ◌^◌, Bool, true, false, cond, not, ◌||◌, List, [], ◌∷◌, eqb, find, Option, Some, None}
 use Rattle.section.specs.declared.quadratic_part.QuadraticPart.{QuadraticPart}
 use Rattle.section.specs.declared.quadratic_part.QuadraticPart.TheVariants as quadratic
 use Rattle.section.specs.declared.convex_monotone_part.ConvexMonotonePart.{ConvexMonotonePart}
@@ -24,13 +22,12 @@ quadratic_field code split = code * 2 ^ 13 + bit split * 2 ^ 12
 abbrev pub other_field : ℕ → Bool → ℕ
 other_field code split = code * 2 ^ 8 + bit split * 2 ^ 7
 
--- the codes: split bits occur only with the Min kinds, and an unknown kind, which no section has, adds no bit
+-- the codes: split bits occur only with the Min kinds
 abbrev pub quadratic_bits : QuadraticKind → ℕ
 quadratic_bits quadratic_kind.Absent = quadratic_field 0 false
 quadratic_bits quadratic_kind.Quadratic = quadratic_field 1 false
 quadratic_bits quadratic_kind.QuadraticMin = quadratic_field 2 false
 quadratic_bits quadratic_kind.QuadraticMinSplit = quadratic_field 2 true
-quadratic_bits quadratic_kind.Unknown = quadratic_field 0 false
 
 abbrev pub other_bits : OtherKind → ℕ
 other_bits other_kind.Absent = other_field 0 false
@@ -41,12 +38,10 @@ other_bits other_kind.ConvexMonotone3 = other_field 4 false
 other_bits other_kind.ConvexMonotone4 = other_field 5 false
 other_bits other_kind.ConvexMonotone4Min = other_field 6 false
 other_bits other_kind.ConvexMonotone4MinSplit = other_field 6 true
-other_bits other_kind.Unknown = other_field 0 false
 
--- of some kinds the one whose bits these are, else d
-abbrev pub kind_with : {K : Type 0} → K → (K → ℕ) → List K → ℕ → K
-kind_with d bits [] n = d
-kind_with d bits (k ∷ ks) n = cond (eqb n (bits k)) k (kind_with d bits ks n)
+-- of some kinds the one whose bits these are, where there is one
+abbrev pub kind_with : {K : Type 0} → (K → ℕ) → List K → ℕ → Option K
+kind_with bits ks n = find (λ k. eqb n (bits k)) ks
 
 abbrev pub quadratic_kinds : List QuadraticKind
 quadratic_kinds =
@@ -64,12 +59,19 @@ other_kinds =
     ∷ other_kind.ConvexMonotone4MinSplit
     ∷ []
 
--- the kinds that a tag names: by its upper 4 bits, and by all others, those to spare among them
-unfoldable pub quadratic_named : ℕ → QuadraticKind
-quadratic_named tag = kind_with quadratic_kind.Unknown quadratic_bits quadratic_kinds (tag / 2 ^ 12 * 2 ^ 12)
+-- the kinds that a tag names: by its upper 4 bits, and by all others, those to spare among them. A code, a split bit or a spare bit that has no meaning
+-- names none.
+unfoldable pub quadratic_named : ℕ → Option QuadraticKind
+quadratic_named tag = kind_with quadratic_bits quadratic_kinds (tag / 2 ^ 12 * 2 ^ 12)
 
-unfoldable pub other_named : ℕ → OtherKind
-other_named tag = kind_with other_kind.Unknown other_bits other_kinds (tag % 2 ^ 12)
+unfoldable pub other_named : ℕ → Option OtherKind
+other_named tag = kind_with other_bits other_kinds (tag % 2 ^ 12)
+
+-- f of both kinds, where both are named, else d
+abbrev pub of_kinds : {A : Type 0} → A → (QuadraticKind → OtherKind → A) → Option QuadraticKind → Option OtherKind → A
+of_kinds d f (Some q) (Some o) = f q o
+of_kinds d f (Some q) None = d
+of_kinds d f None o = d
 
 -- the tag of a section, the other way
 unfoldable pub quadratic_tag : QuadraticPart → ℕ

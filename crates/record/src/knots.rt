@@ -22,12 +22,14 @@ pub struct KnotPrices {
     pub right: f64,
 }
 
+// A closure in place of the two prices would make each call longer: `both(|x| s.value(x), left, right)`.
 fn both(left: f64, right: f64) -> KnotPrices
     ensures { result ≡ record { left = left; right = right } }
 {
     KnotPrices { left, right }
 }
 
+#[tactic(auto, unfolding(section::specs::QuadraticPart::value))]
 fn quadratic_prices(part: QuadraticPart, left: f64, right: f64) -> KnotPrices
     ensures { result ≡ at_both (quadratic_part.value part) left right }
 {
@@ -37,6 +39,7 @@ fn quadratic_prices(part: QuadraticPart, left: f64, right: f64) -> KnotPrices
     }
 }
 
+#[tactic(auto, unfolding(section::specs::ConvexMonotonePart::value))]
 fn convex_prices(part: ConvexMonotonePart, left: f64, right: f64) -> KnotPrices
     ensures { result ≡ at_both (convex_part.value part) left right }
 {
@@ -49,6 +52,7 @@ fn convex_prices(part: ConvexMonotonePart, left: f64, right: f64) -> KnotPrices
 }
 
 // The price at both knots. The kind is asked once for both: with a question for each, the compiler keeps the formulas apart, and a build takes twice as long.
+#[tactic(auto, unfolding(section::specs::Section::value))]
 pub fn knot_prices(section: Section, left: f64, right: f64) -> KnotPrices
     ensures { result ≡ knot_prices section left right }
 {
@@ -63,10 +67,8 @@ pub fn knot_prices(section: Section, left: f64, right: f64) -> KnotPrices
         Section::QuadraticMin(s) => both(s.value(left), s.value(right)),
         Section::Combination(s) => {
             let weight = s.quadraticity;
-            let quadratic = s.quadratic_helper;
-            let other = s.conv_mono_helper;
-            let p = quadratic_prices(quadratic, left, right);
-            let o = convex_prices(other, left, right);
+            let p = quadratic_prices(s.quadratic_helper, left, right);
+            let o = convex_prices(s.conv_mono_helper, left, right);
             both(
                 weight * p.left + (1.0 - weight) * o.left,
                 weight * p.right + (1.0 - weight) * o.right,

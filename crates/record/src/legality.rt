@@ -9,34 +9,17 @@ use numbers::FIELDS;
 fn alone(other: OtherKind) -> bool
     ensures { result ≡ alone other }
 {
-    match other {
-        OtherKind::Absent => false,
-        OtherKind::EverywhereConstant => true,
-        OtherKind::ConstantGrad => true,
-        OtherKind::ConvexMonotone2 => true,
-        OtherKind::ConvexMonotone3 => true,
-        OtherKind::ConvexMonotone4 => true,
-        OtherKind::ConvexMonotone4Min => true,
-        OtherKind::ConvexMonotone4MinSplit => true,
-        OtherKind::Unknown => false,
-    }
+    !matches!(other, OtherKind::Absent)
 }
 
 // Whether it makes one beside a quadratic part.
 fn beside(other: OtherKind) -> bool
     ensures { result ≡ beside other }
 {
-    match other {
-        OtherKind::Absent => true,
-        OtherKind::EverywhereConstant => false,
-        OtherKind::ConstantGrad => false,
-        OtherKind::ConvexMonotone2 => true,
-        OtherKind::ConvexMonotone3 => true,
-        OtherKind::ConvexMonotone4 => true,
-        OtherKind::ConvexMonotone4Min => true,
-        OtherKind::ConvexMonotone4MinSplit => true,
-        OtherKind::Unknown => false,
-    }
+    !matches!(
+        other,
+        OtherKind::EverywhereConstant | OtherKind::ConstantGrad
+    )
 }
 
 // Whether parts of these kinds make a section.
@@ -45,10 +28,7 @@ fn pairs(quadratic: QuadraticKind, other: OtherKind) -> bool
 {
     match quadratic {
         QuadraticKind::Absent => alone(other),
-        QuadraticKind::Quadratic => beside(other),
-        QuadraticKind::QuadraticMin => beside(other),
-        QuadraticKind::QuadraticMinSplit => beside(other),
-        QuadraticKind::Unknown => false,
+        _ => beside(other),
     }
 }
 
@@ -59,5 +39,8 @@ pub fn legal_in(tag: u16, slots: &[f64]) -> bool
     if slots.len() < FIELDS {
         return false;
     }
-    pairs(quadratic_named(tag), other_named(tag))
+    match (quadratic_named(tag), other_named(tag)) {
+        (Some(quadratic), Some(other)) => pairs(quadratic, other),
+        _ => false,
+    }
 }

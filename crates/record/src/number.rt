@@ -1,7 +1,6 @@
 // The one number that a query asks of a record, worked out from the slots: a section is never put together for it.
-ghost use Rattle.std.specs.Prelude.{◌≡◌, ◌≤◌, length};
+ghost use Rattle.std.specs.Prelude.{◌≡◌};
 ghost use Rattle.section.specs.Section.{value, primitive};
-ghost use Rattle.numbers.specs.Sizes.{field_count};
 ghost use Rattle.record.specs.Reading.{quadratic_from, other_from, read_section};
 ghost use Rattle.record.specs.Number.{answer_in, or_zero};
 ghost use Rattle.record.specs.Steps.{quadratic_number, other_number, together};
@@ -13,65 +12,49 @@ use crate::reading::{
 use crate::tag::{OtherKind, QuadraticKind, other_named, quadratic_named};
 use numbers::{FIELDS, Marked, mark};
 
-// What a record answers: a number with its mark, where it is legal.
-#[derive(Clone, Copy)]
-pub enum Answer {
-    Number(Marked),
-    Illegal,
+// A record's number, finite or not, and +0.0 where there is none.
+pub fn or_zero(answer: Option<Marked>) -> f64
+    ensures { result ≡ or_zero answer }
+{
+    answer.map_or(0.0, |marked| marked.number)
 }
 
-impl Answer {
-    // The number, finite or not, and +0.0 where there is none.
-    pub fn or_zero(self) -> f64
-        ensures { result ≡ or_zero self }
-    {
-        match self {
-            Answer::Number(marked) => marked.number,
-            Answer::Illegal => 0.0,
-        }
-    }
-}
-
-// The number of one of a record's two parts: of a kind that stands alone, or of one that may share a section.
+// The number of a record's other part: of a kind that stands alone, or of one that may share a section.
 #[derive(Clone, Copy)]
 pub enum Part {
     Absent,
     Alone(f64),
     Shared(f64),
-    Unknown,
 }
 
 // Prices and totals have a function each: nothing is left to be asked once the kind is known.
-fn quadratic_value(kind: QuadraticKind, slots: &[f64], q: f64) -> Part
-    requires { field_count ≤ length slots.now }
+// One function over a trait of both needs sixteen methods, and one that puts the part together first takes three times as long.
+#[tactic(auto, unfolding(crate::specs::Reading::quadratic_from, section::specs::Section::value))]
+fn quadratic_value(kind: QuadraticKind, slots: &[f64; FIELDS], q: f64) -> Option<f64>
     ensures { result ≡ quadratic_number (λ s. value s q) (quadratic_from kind slots.now) }
 {
     match kind {
-        QuadraticKind::Absent => Part::Absent,
-        QuadraticKind::Quadratic => Part::Shared(quadratic_in(slots).value(q)),
-        QuadraticKind::QuadraticMin => Part::Shared(quadratic_min_in(false, slots).value(q)),
-        QuadraticKind::QuadraticMinSplit => Part::Shared(quadratic_min_in(true, slots).value(q)),
-        QuadraticKind::Unknown => Part::Unknown,
+        QuadraticKind::Absent => None,
+        QuadraticKind::Quadratic => Some(quadratic_in(slots).value(q)),
+        QuadraticKind::QuadraticMin => Some(quadratic_min_in(false, slots).value(q)),
+        QuadraticKind::QuadraticMinSplit => Some(quadratic_min_in(true, slots).value(q)),
     }
 }
 
-fn quadratic_primitive(kind: QuadraticKind, slots: &[f64], q: f64) -> Part
-    requires { field_count ≤ length slots.now }
+#[tactic(auto, unfolding(crate::specs::Reading::quadratic_from, section::specs::Section::primitive))]
+fn quadratic_primitive(kind: QuadraticKind, slots: &[f64; FIELDS], q: f64) -> Option<f64>
     ensures { result ≡ quadratic_number (λ s. primitive s q) (quadratic_from kind slots.now) }
 {
     match kind {
-        QuadraticKind::Absent => Part::Absent,
-        QuadraticKind::Quadratic => Part::Shared(quadratic_in(slots).primitive(q)),
-        QuadraticKind::QuadraticMin => Part::Shared(quadratic_min_in(false, slots).primitive(q)),
-        QuadraticKind::QuadraticMinSplit => Part::Shared(quadratic_min_in(true, slots).primitive(
-            q,
-        )),
-        QuadraticKind::Unknown => Part::Unknown,
+        QuadraticKind::Absent => None,
+        QuadraticKind::Quadratic => Some(quadratic_in(slots).primitive(q)),
+        QuadraticKind::QuadraticMin => Some(quadratic_min_in(false, slots).primitive(q)),
+        QuadraticKind::QuadraticMinSplit => Some(quadratic_min_in(true, slots).primitive(q)),
     }
 }
 
-fn other_value(kind: OtherKind, slots: &[f64], q: f64) -> Part
-    requires { field_count ≤ length slots.now }
+#[tactic(auto, unfolding(crate::specs::Reading::other_from, crate::specs::Steps::other_number, section::specs::Section::value))]
+fn other_value(kind: OtherKind, slots: &[f64; FIELDS], q: f64) -> Part
     ensures { result ≡ other_number (λ s. value s q) (other_from kind slots.now) }
 {
     match kind {
@@ -83,12 +66,11 @@ fn other_value(kind: OtherKind, slots: &[f64], q: f64) -> Part
         OtherKind::ConvexMonotone4 => Part::Shared(fourth_in(slots).value(q)),
         OtherKind::ConvexMonotone4Min => Part::Shared(fourth_min_in(false, slots).value(q)),
         OtherKind::ConvexMonotone4MinSplit => Part::Shared(fourth_min_in(true, slots).value(q)),
-        OtherKind::Unknown => Part::Unknown,
     }
 }
 
-fn other_primitive(kind: OtherKind, slots: &[f64], q: f64) -> Part
-    requires { field_count ≤ length slots.now }
+#[tactic(auto, unfolding(crate::specs::Reading::other_from, crate::specs::Steps::other_number, section::specs::Section::primitive))]
+fn other_primitive(kind: OtherKind, slots: &[f64; FIELDS], q: f64) -> Part
     ensures { result ≡ other_number (λ s. primitive s q) (other_from kind slots.now) }
 {
     match kind {
@@ -100,52 +82,40 @@ fn other_primitive(kind: OtherKind, slots: &[f64], q: f64) -> Part
         OtherKind::ConvexMonotone4 => Part::Shared(fourth_in(slots).primitive(q)),
         OtherKind::ConvexMonotone4Min => Part::Shared(fourth_min_in(false, slots).primitive(q)),
         OtherKind::ConvexMonotone4MinSplit => Part::Shared(fourth_min_in(true, slots).primitive(q)),
-        OtherKind::Unknown => Part::Unknown,
     }
 }
 
-// The two parts' numbers as one, or none where the tag names a pair that there is not.
-fn together(weight: f64, quadratic: Part, other: Part) -> Answer
+// The two parts' numbers as one, or none where there is no such pair.
+fn together(weight: f64, quadratic: Option<f64>, other: Part) -> Option<Marked>
     ensures { result ≡ together weight quadratic other }
 {
-    match quadratic {
-        Part::Unknown => Answer::Illegal,
-        Part::Alone(_) => Answer::Illegal,
-        Part::Absent => match other {
-            Part::Absent => Answer::Illegal,
-            Part::Unknown => Answer::Illegal,
-            Part::Alone(o) => Answer::Number(mark(o)),
-            Part::Shared(o) => Answer::Number(mark(o)),
-        },
-        Part::Shared(p) => match other {
-            Part::Absent => Answer::Number(mark(p)),
-            Part::Unknown => Answer::Illegal,
-            Part::Alone(_) => Answer::Illegal,
-            Part::Shared(o) => Answer::Number(mark(weight * p + (1.0 - weight) * o)),
-        },
-    }
+    let number = match (quadratic, other) {
+        (None, Part::Absent) | (Some(_), Part::Alone(_)) => return None,
+        (None, Part::Alone(o) | Part::Shared(o)) => o,
+        (Some(p), Part::Absent) => p,
+        (Some(p), Part::Shared(o)) => weight * p + (1.0 - weight) * o,
+    };
+    Some(mark(number))
 }
 
 // The price at q of the section that a record of these slots holds.
-pub fn value_in(tag: u16, slots: &[f64], q: f64) -> Answer
+#[tactic(auto, unfolding(crate::specs::Reading::read_section))]
+pub fn value_in(tag: u16, slots: &[f64], q: f64) -> Option<Marked>
     ensures { result ≡ answer_in (λ s. value s q) (read_section tag slots.now) }
 {
-    if slots.len() < FIELDS {
-        return Answer::Illegal;
-    }
-    let quadratic = quadratic_value(quadratic_named(tag), slots, q);
-    let other = other_value(other_named(tag), slots, q);
-    together(slots[0], quadratic, other)
+    let fields = slots.first_chunk()?;
+    let quadratic = quadratic_value(quadratic_named(tag)?, fields, q);
+    let other = other_value(other_named(tag)?, fields, q);
+    together(fields[0], quadratic, other)
 }
 
 // The total up to q.
-pub fn primitive_in(tag: u16, slots: &[f64], q: f64) -> Answer
+#[tactic(auto, unfolding(crate::specs::Reading::read_section))]
+pub fn primitive_in(tag: u16, slots: &[f64], q: f64) -> Option<Marked>
     ensures { result ≡ answer_in (λ s. primitive s q) (read_section tag slots.now) }
 {
-    if slots.len() < FIELDS {
-        return Answer::Illegal;
-    }
-    let quadratic = quadratic_primitive(quadratic_named(tag), slots, q);
-    let other = other_primitive(other_named(tag), slots, q);
-    together(slots[0], quadratic, other)
+    let fields = slots.first_chunk()?;
+    let quadratic = quadratic_primitive(quadratic_named(tag)?, fields, q);
+    let other = other_primitive(other_named(tag)?, fields, q);
+    together(fields[0], quadratic, other)
 }

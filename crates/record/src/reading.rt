@@ -1,6 +1,5 @@
 // A section back from its tag and its slots.
-ghost use Rattle.std.specs.Prelude.{◌≡◌, ◌≤◌, length};
-ghost use Rattle.numbers.specs.Sizes.{field_count};
+ghost use Rattle.std.specs.Prelude.{◌≡◌};
 ghost use Rattle.record.specs.Reading.{quadratic_in, quadratic_min_in, constant_in, gradient_in, second_in, third_in, fourth_in, fourth_min_in, quadratic_from, other_from, joined, read_section};
 
 use crate::tag::{OtherKind, QuadraticKind, other_named, quadratic_named};
@@ -18,32 +17,16 @@ use section::everywhere_constant::EverywhereConstant;
 use section::quadratic_part::QuadraticPart;
 use section::section::Section;
 
-// What a record holds of a quadratic part.
-#[derive(Clone, Copy)]
-pub enum QuadraticFound {
-    Absent,
-    Part(QuadraticPart),
-    Unknown,
-}
-
-// What it holds of the other part.
+// What a record holds of the other part.
 #[derive(Clone, Copy)]
 pub enum OtherFound {
     Absent,
     Constant(EverywhereConstant),
     Gradient(ConstantGrad),
     Convex(ConvexMonotonePart),
-    Unknown,
 }
 
-#[derive(Clone, Copy)]
-pub enum Found {
-    Section(Section),
-    Illegal,
-}
-
-pub(crate) fn quadratic_in(slots: &[f64]) -> Quadratic
-    requires { field_count ≤ length slots.now }
+pub(crate) fn quadratic_in(slots: &[f64; FIELDS]) -> Quadratic
     ensures { result ≡ quadratic_in slots.now }
 {
     Quadratic {
@@ -57,8 +40,7 @@ pub(crate) fn quadratic_in(slots: &[f64]) -> Quadratic
     }
 }
 
-pub(crate) fn quadratic_min_in(split_region: bool, slots: &[f64]) -> QuadraticMin
-    requires { field_count ≤ length slots.now }
+pub(crate) fn quadratic_min_in(split_region: bool, slots: &[f64; FIELDS]) -> QuadraticMin
     ensures { result ≡ quadratic_min_in split_region slots.now }
 {
     QuadraticMin {
@@ -78,8 +60,7 @@ pub(crate) fn quadratic_min_in(split_region: bool, slots: &[f64]) -> QuadraticMi
     }
 }
 
-pub(crate) fn constant_in(slots: &[f64]) -> EverywhereConstant
-    requires { field_count ≤ length slots.now }
+pub(crate) fn constant_in(slots: &[f64; FIELDS]) -> EverywhereConstant
     ensures { result ≡ constant_in slots.now }
 {
     EverywhereConstant {
@@ -89,8 +70,7 @@ pub(crate) fn constant_in(slots: &[f64]) -> EverywhereConstant
     }
 }
 
-pub(crate) fn gradient_in(slots: &[f64]) -> ConstantGrad
-    requires { field_count ≤ length slots.now }
+pub(crate) fn gradient_in(slots: &[f64; FIELDS]) -> ConstantGrad
     ensures { result ≡ gradient_in slots.now }
 {
     ConstantGrad {
@@ -102,8 +82,8 @@ pub(crate) fn gradient_in(slots: &[f64]) -> ConstantGrad
     }
 }
 
-pub(crate) fn second_in(slots: &[f64]) -> ConvexMonotone2
-    requires { field_count ≤ length slots.now }
+// This kind and the next differ in their types and in the name of a field: one function for both would have to be passed how to make each.
+pub(crate) fn second_in(slots: &[f64; FIELDS]) -> ConvexMonotone2
     ensures { result ≡ second_in slots.now }
 {
     ConvexMonotone2 {
@@ -117,8 +97,7 @@ pub(crate) fn second_in(slots: &[f64]) -> ConvexMonotone2
     }
 }
 
-pub(crate) fn third_in(slots: &[f64]) -> ConvexMonotone3
-    requires { field_count ≤ length slots.now }
+pub(crate) fn third_in(slots: &[f64; FIELDS]) -> ConvexMonotone3
     ensures { result ≡ third_in slots.now }
 {
     ConvexMonotone3 {
@@ -132,8 +111,7 @@ pub(crate) fn third_in(slots: &[f64]) -> ConvexMonotone3
     }
 }
 
-pub(crate) fn fourth_in(slots: &[f64]) -> ConvexMonotone4
-    requires { field_count ≤ length slots.now }
+pub(crate) fn fourth_in(slots: &[f64; FIELDS]) -> ConvexMonotone4
     ensures { result ≡ fourth_in slots.now }
 {
     ConvexMonotone4 {
@@ -148,8 +126,7 @@ pub(crate) fn fourth_in(slots: &[f64]) -> ConvexMonotone4
     }
 }
 
-pub(crate) fn fourth_min_in(split_region: bool, slots: &[f64]) -> ConvexMonotone4Min
-    requires { field_count ≤ length slots.now }
+pub(crate) fn fourth_min_in(split_region: bool, slots: &[f64; FIELDS]) -> ConvexMonotone4Min
     ensures { result ≡ fourth_min_in split_region slots.now }
 {
     let base = fourth_in(slots);
@@ -163,27 +140,24 @@ pub(crate) fn fourth_min_in(split_region: bool, slots: &[f64]) -> ConvexMonotone
 }
 
 // The part of a kind, out of its slots.
-fn quadratic_from(kind: QuadraticKind, slots: &[f64]) -> QuadraticFound
-    requires { field_count ≤ length slots.now }
+#[tactic(auto, unfolding(crate::specs::Reading::quadratic_from))]
+fn quadratic_from(kind: QuadraticKind, slots: &[f64; FIELDS]) -> Option<QuadraticPart>
     ensures { result ≡ quadratic_from kind slots.now }
 {
     match kind {
-        QuadraticKind::Absent => QuadraticFound::Absent,
-        QuadraticKind::Quadratic => {
-            QuadraticFound::Part(QuadraticPart::Quadratic(quadratic_in(slots)))
-        }
+        QuadraticKind::Absent => None,
+        QuadraticKind::Quadratic => Some(QuadraticPart::Quadratic(quadratic_in(slots))),
         QuadraticKind::QuadraticMin => {
-            QuadraticFound::Part(QuadraticPart::QuadraticMin(quadratic_min_in(false, slots)))
+            Some(QuadraticPart::QuadraticMin(quadratic_min_in(false, slots)))
         }
         QuadraticKind::QuadraticMinSplit => {
-            QuadraticFound::Part(QuadraticPart::QuadraticMin(quadratic_min_in(true, slots)))
+            Some(QuadraticPart::QuadraticMin(quadratic_min_in(true, slots)))
         }
-        QuadraticKind::Unknown => QuadraticFound::Unknown,
     }
 }
 
-fn other_from(kind: OtherKind, slots: &[f64]) -> OtherFound
-    requires { field_count ≤ length slots.now }
+#[tactic(auto, unfolding(crate::specs::Reading::other_from))]
+fn other_from(kind: OtherKind, slots: &[f64; FIELDS]) -> OtherFound
     ensures { result ≡ other_from kind slots.now }
 {
     match kind {
@@ -205,43 +179,36 @@ fn other_from(kind: OtherKind, slots: &[f64]) -> OtherFound
         OtherKind::ConvexMonotone4MinSplit => {
             OtherFound::Convex(ConvexMonotonePart::ConvexMonotone4Min(fourth_min_in(true, slots)))
         }
-        OtherKind::Unknown => OtherFound::Unknown,
     }
 }
 
-// The two parts put together, or no section where the tag names a pair that there is not.
-fn joined(weight: f64, quadratic: QuadraticFound, other: OtherFound) -> Found
+// The two parts put together, or no section where there is no such pair.
+#[tactic(auto, unfolding(crate::specs::Reading::joined))]
+fn joined(weight: f64, quadratic: Option<QuadraticPart>, other: OtherFound) -> Option<Section>
     ensures { result ≡ joined weight quadratic other }
 {
     match quadratic {
-        QuadraticFound::Unknown => Found::Illegal,
-        QuadraticFound::Absent => match other {
-            OtherFound::Absent => Found::Illegal,
-            OtherFound::Unknown => Found::Illegal,
-            OtherFound::Constant(s) => Found::Section(Section::EverywhereConstant(s)),
-            OtherFound::Gradient(s) => Found::Section(Section::ConstantGrad(s)),
-            OtherFound::Convex(c) => Found::Section(c.alone()),
+        None => match other {
+            OtherFound::Absent => None,
+            OtherFound::Constant(s) => Some(Section::EverywhereConstant(s)),
+            OtherFound::Gradient(s) => Some(Section::ConstantGrad(s)),
+            OtherFound::Convex(c) => Some(c.alone()),
         },
-        QuadraticFound::Part(q) => match other {
-            OtherFound::Absent => Found::Section(q.alone()),
-            OtherFound::Unknown => Found::Illegal,
-            OtherFound::Constant(_) => Found::Illegal,
-            OtherFound::Gradient(_) => Found::Illegal,
-            OtherFound::Convex(c) => Found::Section(Section::Combination(Combination::new(
-                q, c, weight,
-            ))),
+        Some(q) => match other {
+            OtherFound::Absent => Some(q.alone()),
+            OtherFound::Constant(_) | OtherFound::Gradient(_) => None,
+            OtherFound::Convex(c) => Some(Section::Combination(Combination::new(q, c, weight))),
         },
     }
 }
 
 // The section that a record of these slots holds, or no section: an illegal tag, or too few slots, reads nothing.
-pub fn read_section(tag: u16, slots: &[f64]) -> Found
+#[tactic(auto, unfolding(crate::specs::Reading::read_section))]
+pub fn read_section(tag: u16, slots: &[f64]) -> Option<Section>
     ensures { result ≡ read_section tag slots.now }
 {
-    if slots.len() < FIELDS {
-        return Found::Illegal;
-    }
-    let quadratic = quadratic_from(quadratic_named(tag), slots);
-    let other = other_from(other_named(tag), slots);
-    joined(slots[0], quadratic, other)
+    let fields = slots.first_chunk()?;
+    let quadratic = quadratic_from(quadratic_named(tag)?, fields);
+    let other = other_from(other_named(tag)?, fields);
+    joined(fields[0], quadratic, other)
 }

@@ -7,6 +7,7 @@ use section::convex_monotone_part::ConvexMonotonePart;
 use section::quadratic_part::QuadraticPart;
 use section::section::Section;
 
+#[tactic(auto, unfolding(crate::specs::Slots::quadratic_slots))]
 fn quadratic_slots(part: QuadraticPart) -> [f64; 12]
     ensures { result ≡ quadratic_slots part }
 {
@@ -42,6 +43,7 @@ fn quadratic_slots(part: QuadraticPart) -> [f64; 12]
     }
 }
 
+#[tactic(auto, unfolding(crate::specs::Slots::convex_slots))]
 fn convex_slots(part: ConvexMonotonePart) -> [f64; 11]
     ensures { result ≡ convex_slots part }
 {
@@ -111,6 +113,8 @@ fn laid_out(weight: f64, q: [f64; 12], o: [f64; 11]) -> [f64; FIELDS]
 }
 
 // The slots of a section's record; those that its kinds don't use hold +0.0.
+// A kind is wrapped as a part, since each kind's slots are written once, for a section of that kind alone and for a part of a combination.
+#[tactic(auto, unfolding(crate::specs::Slots::slots_of))]
 pub fn slots_of(section: Section) -> [f64; FIELDS]
     ensures { result ≡ slots_of section }
 {
@@ -187,12 +191,10 @@ pub fn slots_of(section: Section) -> [f64; FIELDS]
             )
         }
         Section::Combination(s) => {
-            let quadratic = s.quadratic_helper;
-            let other = s.conv_mono_helper;
             laid_out(
                 s.quadraticity,
-                quadratic_slots(quadratic),
-                convex_slots(other),
+                quadratic_slots(s.quadratic_helper),
+                convex_slots(s.conv_mono_helper),
             )
         }
     }

@@ -7,18 +7,16 @@ use section::convex_monotone_part::ConvexMonotonePart;
 use section::quadratic_part::QuadraticPart;
 use section::section::Section;
 
-// The kind of the quadratic part. A Min kind that is split is a kind of its own, so that nothing is left to be asked once the kind is known. `Unknown`
-// stands for a code, or a split bit, that has no meaning.
+// The kind of the quadratic part. A Min kind that is split is a kind of its own, so that nothing is left to be asked once the kind is known.
 #[derive(Clone, Copy)]
 pub enum QuadraticKind {
     Absent,
     Quadratic,
     QuadraticMin,
     QuadraticMinSplit,
-    Unknown,
 }
 
-// The kind of the other part. A spare bit that is set makes it `Unknown`, too.
+// The kind of the other part.
 #[derive(Clone, Copy)]
 pub enum OtherKind {
     Absent,
@@ -29,7 +27,6 @@ pub enum OtherKind {
     ConvexMonotone4,
     ConvexMonotone4Min,
     ConvexMonotone4MinSplit,
-    Unknown,
 }
 
 // Where the codes and the split bits stand in a tag: what each is counted in.
@@ -64,54 +61,50 @@ const CONVEX_MONOTONE4_MIN: u16 = OTHER_CODE * 6;
 
 const CONVEX_MONOTONE4_MIN_SPLIT: u16 = CONVEX_MONOTONE4_MIN + OTHER_SPLIT;
 
-// The kind of the quadratic part that a tag names, by the bits from its split on.
+// The kind of the quadratic part that a tag names, by the bits from its split on; none where the code, or the split bit, has no meaning.
 #[tactic(auto, using(std::proofs::lemmas::Bool::Decides::nat_tests), unfolding(crate::specs::Tag::quadratic_named))]
-pub(crate) fn quadratic_named(tag: u16) -> QuadraticKind
+pub(crate) fn quadratic_named(tag: u16) -> Option<QuadraticKind>
     ensures { result ≡ quadratic_named tag }
 {
     match tag / QUADRATIC_SPLIT * QUADRATIC_SPLIT {
-        ABSENT => QuadraticKind::Absent,
-        QUADRATIC => QuadraticKind::Quadratic,
-        QUADRATIC_MIN => QuadraticKind::QuadraticMin,
-        QUADRATIC_MIN_SPLIT => QuadraticKind::QuadraticMinSplit,
-        _ => QuadraticKind::Unknown,
+        ABSENT => Some(QuadraticKind::Absent),
+        QUADRATIC => Some(QuadraticKind::Quadratic),
+        QUADRATIC_MIN => Some(QuadraticKind::QuadraticMin),
+        QUADRATIC_MIN_SPLIT => Some(QuadraticKind::QuadraticMinSplit),
+        _ => None,
     }
 }
 
-// The kind of the other part, by all bits below those.
+// The kind of the other part, by all bits below those; none where a spare bit is set, too.
 #[tactic(auto, using(std::proofs::lemmas::Bool::Decides::nat_tests), unfolding(crate::specs::Tag::other_named))]
-pub(crate) fn other_named(tag: u16) -> OtherKind
+pub(crate) fn other_named(tag: u16) -> Option<OtherKind>
     ensures { result ≡ other_named tag }
 {
     match tag % QUADRATIC_SPLIT {
-        ABSENT => OtherKind::Absent,
-        EVERYWHERE_CONSTANT => OtherKind::EverywhereConstant,
-        CONSTANT_GRAD => OtherKind::ConstantGrad,
-        CONVEX_MONOTONE2 => OtherKind::ConvexMonotone2,
-        CONVEX_MONOTONE3 => OtherKind::ConvexMonotone3,
-        CONVEX_MONOTONE4 => OtherKind::ConvexMonotone4,
-        CONVEX_MONOTONE4_MIN => OtherKind::ConvexMonotone4Min,
-        CONVEX_MONOTONE4_MIN_SPLIT => OtherKind::ConvexMonotone4MinSplit,
-        _ => OtherKind::Unknown,
+        ABSENT => Some(OtherKind::Absent),
+        EVERYWHERE_CONSTANT => Some(OtherKind::EverywhereConstant),
+        CONSTANT_GRAD => Some(OtherKind::ConstantGrad),
+        CONVEX_MONOTONE2 => Some(OtherKind::ConvexMonotone2),
+        CONVEX_MONOTONE3 => Some(OtherKind::ConvexMonotone3),
+        CONVEX_MONOTONE4 => Some(OtherKind::ConvexMonotone4),
+        CONVEX_MONOTONE4_MIN => Some(OtherKind::ConvexMonotone4Min),
+        CONVEX_MONOTONE4_MIN_SPLIT => Some(OtherKind::ConvexMonotone4MinSplit),
+        _ => None,
     }
 }
 
+#[tactic(auto, unfolding(crate::specs::Tag::quadratic_tag))]
 fn quadratic_tag(part: QuadraticPart) -> u16
     ensures { result ≡ quadratic_tag part }
 {
     match part {
         QuadraticPart::Quadratic(_) => QUADRATIC,
-        QuadraticPart::QuadraticMin(s) => {
-            let split = s.split_region;
-            if split {
-                QUADRATIC_MIN_SPLIT
-            } else {
-                QUADRATIC_MIN
-            }
-        }
+        QuadraticPart::QuadraticMin(s) if s.split_region => QUADRATIC_MIN_SPLIT,
+        QuadraticPart::QuadraticMin(_) => QUADRATIC_MIN,
     }
 }
 
+#[tactic(auto, unfolding(crate::specs::Tag::convex_tag))]
 fn convex_tag(part: ConvexMonotonePart) -> u16
     ensures { result ≡ convex_tag part }
 {
@@ -119,18 +112,13 @@ fn convex_tag(part: ConvexMonotonePart) -> u16
         ConvexMonotonePart::ConvexMonotone2(_) => CONVEX_MONOTONE2,
         ConvexMonotonePart::ConvexMonotone3(_) => CONVEX_MONOTONE3,
         ConvexMonotonePart::ConvexMonotone4(_) => CONVEX_MONOTONE4,
-        ConvexMonotonePart::ConvexMonotone4Min(s) => {
-            let split = s.split_region;
-            if split {
-                CONVEX_MONOTONE4_MIN_SPLIT
-            } else {
-                CONVEX_MONOTONE4_MIN
-            }
-        }
+        ConvexMonotonePart::ConvexMonotone4Min(s) if s.split_region => CONVEX_MONOTONE4_MIN_SPLIT,
+        ConvexMonotonePart::ConvexMonotone4Min(_) => CONVEX_MONOTONE4_MIN,
     }
 }
 
 // The tag of a section, as a record of it is marked.
+#[tactic(auto, unfolding(crate::specs::Tag::tag_of))]
 pub fn tag_of(section: Section) -> u16
     ensures { result ≡ tag_of section }
 {
@@ -144,14 +132,12 @@ pub fn tag_of(section: Section) -> u16
         Section::Quadratic(_) => QUADRATIC,
         Section::QuadraticMin(s) => quadratic_tag(QuadraticPart::QuadraticMin(s)),
         Section::Combination(s) => {
-            let quadratic = s.quadratic_helper;
-            let other = s.conv_mono_helper;
-            quadratic_tag(quadratic) + convex_tag(other)
+            quadratic_tag(s.quadratic_helper) + convex_tag(s.conv_mono_helper)
         }
     }
 }
 
-// Whether a part is split, by its split bit alone.
+// Whether a part is split, by its split bit alone. One function of any bit would need the bit and a clause on it at each call, and say less.
 pub(crate) fn is_quadratic_split(tag: u16) -> bool
     ensures { result ≡ quadratic_split_tag tag }
 {

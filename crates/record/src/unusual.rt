@@ -18,6 +18,7 @@ fn is_ordinary(ratio: f64) -> bool
 }
 
 // Whether a part is split, but x does not lie before its zero stretch, or its ratio is not of ordinary size. Slots that are no section's have no split.
+#[tactic(auto, unfolding(crate::specs::Unusual::unusual_split))]
 pub fn is_unusual(tag: u16, slots: &[f64], x: f64) -> bool
     ensures { result ≡ unusual_split tag slots.now x }
 {

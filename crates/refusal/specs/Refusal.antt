@@ -1,9 +1,7 @@
 -- 01, Refusal numbers. 02, K1: 18. K2: 19. K7: 21.
-use Rattle.std.specs.Prelude.{ℕ, Bool, cond, List, [], ◌∷◌}
+use Rattle.std.specs.Prelude.{ℕ, Bool, cond, List, [], ◌∷◌, Result, Ok, Err}
 use Rattle.refusal.specs.declared.Refusal.{Refusal}
 use Rattle.refusal.specs.declared.Refusal.TheVariants.{LengthsDiffer, MonotonicityOutside, QuadraticityOutside, TooFewPoints, KnotNotFinite, AverageNotFinite, KnotsNotRising, SeamTooLong, NoPreviousCurve, TooManyPoints, BufferTooShort, QueryNotANumber, QueryOutside, DerivativeAsked, RecordNotLegal, NoGivenNode, OrderMalformed, StripEndsNotRising, MonthsNotPeriods, NotFinite, CutsNotInner, AverageBelowZero, SplitUnknown}
-use Rattle.refusal.specs.declared.Verdict.{Verdict}
-use Rattle.refusal.specs.declared.Verdict.TheVariants.{Accepted, Refused}
 
 abbrev pub number : Refusal → ℕ
 number LengthsDiffer = 1
@@ -30,10 +28,14 @@ number CutsNotInner = 28
 number AverageBelowZero = 29
 number SplitUnknown = 30
 
+-- what a check says of an input
+abbrev pub Verdict : Type 0
+Verdict = Result (Unit {0}) Refusal
+
 -- a verdict's number: 0, or the refusal's
 abbrev pub verdict_number : Verdict → ℕ
-verdict_number Accepted = 0
-verdict_number (Refused r) = number r
+verdict_number (Ok tt) = 0
+verdict_number (Err r) = number r
 
 -- A check in its order: the first test that holds names the refusal.
 pub record Test : Type 0 where
@@ -45,10 +47,10 @@ b ⇒ r = record { holds = b; refusal = r }
 
 infix 20 ◌⇒◌
 abbrev pub first : List Test → Verdict
-first [] = Accepted
-first (t ∷ ts) = cond t.holds (Refused t.refusal) (first ts)
+first [] = Ok tt
+first (t ∷ ts) = cond t.holds (Err t.refusal) (first ts)
 
 -- one check after another: the second speaks only where the first accepts
 abbrev pub and_then : Verdict → Verdict → Verdict
-and_then Accepted v = v
-and_then (Refused r) v = Refused r
+and_then (Ok tt) v = v
+and_then (Err r) v = Err r

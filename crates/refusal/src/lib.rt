@@ -4,7 +4,7 @@
 ghost use Rattle.std.specs.Prelude.{◌≡◌};
 ghost use Rattle.refusal.specs.Refusal.{number, verdict_number};
 
-#[derive(Clone, Copy)]
+#[derive(Clone, Copy, Debug, PartialEq, Eq)]
 pub enum Refusal {
     LengthsDiffer,
     MonotonicityOutside,
@@ -63,21 +63,12 @@ impl Refusal {
     }
 }
 
-// What a check says of an input.
-#[derive(Clone, Copy)]
-pub enum Verdict {
-    Accepted,
-    Refused(Refusal),
-}
-
-impl Verdict {
-    // The refusal's number, or 0.
-    pub fn number(self) -> u8
-        ensures { result ≡ verdict_number self }
-    {
-        match self {
-            Verdict::Accepted => 0,
-            Verdict::Refused(refusal) => refusal.number(),
-        }
+// The number of what a check says of an input: the refusal's, or 0.
+pub fn verdict_number(verdict: Result<(), Refusal>) -> u8
+    ensures { result ≡ verdict_number verdict }
+{
+    match verdict {
+        Ok(()) => 0,
+        Err(refusal) => refusal.number(),
     }
 }

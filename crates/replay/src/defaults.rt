@@ -1,15 +1,10 @@
 // A line `m POSITIVITY Q M`: the settings that the original takes where none are named. They are the gas default.
+use crate::marks::same_bits;
 use table::method::ConvexMonotone;
 
 // Whether the settings that a line tells are ours.
 pub(crate) fn agrees(positivity: u64, q: u64, m: u64) -> bool {
     let gas = ConvexMonotone::gas();
-    let on: u64 = if gas.force_positive { 1 } else { 0 };
-    if on != positivity {
-        return false;
-    }
-    if numbers::to_bits(gas.quadraticity) != q {
-        return false;
-    }
-    numbers::to_bits(gas.monotonicity) == m
+    u64::from(gas.force_positive) == positivity
+        && same_bits(&[gas.quadraticity, gas.monotonicity], &[q, m])
 }

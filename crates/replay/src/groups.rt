@@ -1,22 +1,21 @@
 // The lines about one section or one curve: first how it is made, then its records, then what it answers.
-use crate::cuts::Cut;
-use crate::kept::{Kept, Outcome};
+use crate::kept::Kept;
+use crate::marks::{Told, by_mark};
 use crate::records::Record;
 use crate::seen::Seen;
-use crate::words::MOST;
-use crate::{
-    curves, cuts, defaults, growths, kept, marks, records, roots, sections, strips, tables,
-};
+use crate::tables::Table;
+use crate::words::Words;
+use crate::{curves, cuts, defaults, growths, kept, queries, records, roots, sections, strips};
 use curve::curve::Curve;
 
 // What the next lines are about: a section whose record is not told yet, or that is asked; an outcome that is not told yet; a curve of which so many
 // records were told, one of which the section in the next record was told too but not its knots, one whose end was told too, one whose nodes were told
 // too, or one that is told whole and is asked.
 #[derive(Clone, Copy)]
-pub(crate) enum Subject {
+enum Subject {
     Nothing,
-    Made,
-    ReadBack,
+    Made(Record),
+    ReadBack(Record),
     Outcome,
     Curve(Curve, usize),
     Record(Curve, usize),
@@ -25,301 +24,285 @@ pub(crate) enum Subject {
     Whole(Curve),
 }
 
-// The record counts while the subject is its section. What is kept of the last table is grown from, whatever sound line came since, until it is forgotten.
+// What is kept of the last table is grown from, whatever sound line came since, until it is forgotten.
 #[derive(Clone, Copy)]
 pub(crate) struct State {
     pub seen: Seen,
-    pub subject: Subject,
-    pub record: Record,
-    pub kept: Kept,
+    subject: Subject,
+    kept: Option<Kept>,
 }
 
 impl State {
-    pub(crate) fn first() -> Self {
-        let seen = Seen::none();
-        let record = records::none();
-        let kept = kept::none();
+    pub(crate) fn new() -> Self {
         Self {
-            seen,
+            seen: Seen::default(),
             subject: Subject::Nothing,
-            record,
-            kept,
+            kept: None,
         }
     }
 
-    fn with(self, seen: Seen, subject: Subject) -> Self {
-        let record = self.record;
-        let kept = self.kept;
-        Self {
-            seen,
-            subject,
-            record,
-            kept,
+    // What a line adds. After one that tells nothing no section and no curve is trusted either.
+    pub(crate) fn line(&mut self, line: &[u8]) {
+        if self.told_by(line).is_none() {
+            self.seen.strange.more();
+            self.forget();
         }
     }
 
-    fn with_kept(self, seen: Seen, subject: Subject, kept: Kept) -> Self {
-        let record = self.record;
-        Self {
-            seen,
-            subject,
-            record,
-            kept,
+    // A line's letter, its words and its end.
+    fn told_by(&mut self, line: &[u8]) -> Option<()> {
+        let [letter, bytes @ .., b'\n'] = line else {
+            return None;
+        };
+        let words = Words::of_bytes(bytes)?;
+        let words = words.as_slice();
+        match (*letter, words) {
+            (b'm', [positivity, q, m]) => {
+                self.default(*positivity, *q, *m);
+                Some(())
+            }
+            (b'r', [a, s]) => {
+                self.root(*a, *s);
+                Some(())
+            }
+            (b'f', []) => {
+                self.forget();
+                Some(())
+            }
+            (b's', _) => self.section(words),
+            (b't', _) => self.record(words.as_array()?),
+            (b'x', [x, value, primitive]) => self.query(*x, *value, *primitive),
+            _ => self.of_curve(*letter, words),
+        }
+    }
+
+    fn of_curve(&mut self, letter: u8, words: &[u64]) -> Option<()> {
+        match (letter, words) {
+            (b'c', _) => self.table(words),
+            (b'g', _) => self.growth(words),
+            (b'b', [refusal, sections]) => self.told(*refusal, *sections),
+            (b'k', _) => self.knots(words.as_array()?),
+            (b'e', _) => self.tail(words.as_array()?),
+            (b'n', _) => self.nodes(words),
+            (b'u', _) => self.column(words),
+            (b'a', _) => self.curve_query(words.as_array()?),
+            (b'p', _) => self.strip(words.as_array()?),
+            _ => None,
         }
     }
 
     // No section and no curve is kept.
-    pub(crate) fn forget(self) -> Self {
-        let seen = self.seen;
-        self.with_kept(seen, Subject::Nothing, kept::none())
+    fn forget(&mut self) {
+        self.subject = Subject::Nothing;
+        self.kept = None;
     }
 
-    // A line that tells nothing, after which no section and no curve is trusted either.
-    pub(crate) fn strange_line(self) -> Self {
-        let seen = self.seen;
-        self.with_kept(seen.strange_line(), Subject::Nothing, kept::none())
+    fn default(&mut self, positivity: u64, q: u64, m: u64) {
+        self.seen.defaults.more();
+        self.seen.judge(defaults::agrees(positivity, q, m));
     }
 
-    pub(crate) fn default(self, words: &[u64; MOST]) -> Self {
-        let seen = self.seen;
-        let subject = self.subject;
-        self.with(
-            seen.default(defaults::agrees(words[0], words[1], words[2])),
-            subject,
-        )
+    fn root(&mut self, a: u64, s: u64) {
+        self.seen.roots.more();
+        self.seen.judge(roots::agrees(a, s));
     }
 
-    pub(crate) fn root(self, words: &[u64; MOST]) -> Self {
-        let seen = self.seen;
-        let subject = self.subject;
-        self.with(seen.root(roots::agrees(words[0], words[1])), subject)
+    fn section(&mut self, words: &[u64]) -> Option<()> {
+        let record = Record::of_section(sections::of_words(words)?);
+        self.seen.section(record.tag);
+        self.subject = Subject::Made(record);
+        Some(())
     }
 
-    pub(crate) fn section(self, words: &[u64; MOST], count: usize) -> Self {
-        let record = sections::of_words(words, count);
-        if record.tag == 0 {
-            return self.strange_line();
-        }
-        let seen = self.seen;
-        let kept = self.kept;
-        let seen = seen.section(record.tag);
-        State {
-            seen,
-            subject: Subject::Made,
-            record,
-            kept,
-        }
-    }
-
-    pub(crate) fn record(self, words: &[u64; MOST]) -> Self {
-        let subject = self.subject;
-        match subject {
-            Subject::Made => self.section_record(words),
+    fn record(&mut self, words: &[u64; records::WORDS]) -> Option<()> {
+        match self.subject {
+            Subject::Made(record) => {
+                self.seen.records.more();
+                self.seen
+                    .judge(records::agrees(record.tag, &record.slots, words));
+                self.subject = Subject::ReadBack(record);
+                Some(())
+            }
             Subject::Curve(made, lines) => self.curve_record(made, lines, words),
-            Subject::ReadBack => self.strange_line(),
-            Subject::Outcome => self.strange_line(),
-            Subject::Record(_, _) => self.strange_line(),
-            Subject::Ended(_) => self.strange_line(),
-            Subject::Noded(_) => self.strange_line(),
-            Subject::Whole(_) => self.strange_line(),
-            Subject::Nothing => self.strange_line(),
+            _ => None,
         }
     }
 
-    fn section_record(self, words: &[u64; MOST]) -> Self {
-        let seen = self.seen;
-        let tag = self.record.tag;
-        let slots = self.record.slots;
-        self.with(
-            seen.record(records::agrees(tag, &slots, words)),
-            Subject::ReadBack,
-        )
-    }
-
-    pub(crate) fn query(self, words: &[u64; MOST]) -> Self {
-        let subject = self.subject;
-        let Subject::ReadBack = subject else {
-            return self.strange_line();
+    fn query(&mut self, x: u64, value: u64, primitive: u64) -> Option<()> {
+        let Subject::ReadBack(record) = self.subject else {
+            return None;
         };
-        let seen = self.seen;
-        let record = self.record;
-        self.with(
-            seen.query(crate::queries::agrees(record, words[0], words[1], words[2]))
-                .by_mark(marks::by_mark(words[1]))
-                .by_mark(marks::by_mark(words[2])),
-            subject,
-        )
+        self.seen.queries.more();
+        self.seen
+            .judge(queries::agrees(record, x, value, primitive));
+        self.seen.not_finite.more_by(by_mark(value));
+        self.seen.not_finite.more_by(by_mark(primitive));
+        Some(())
     }
 
-    fn outcome(self, kept: Kept) -> Self {
-        let outcome = kept.outcome;
-        if let Outcome::Nothing = outcome {
-            return self.strange_line();
+    fn outcome(&mut self, kept: Kept) {
+        self.seen.curves(kept.grown).asked.more();
+        self.subject = Subject::Outcome;
+        self.kept = Some(kept);
+    }
+
+    // The table as a whole, and in sheets where it can be cut.
+    fn table(&mut self, words: &[u64]) -> Option<()> {
+        let table = Table::of_words(words)?;
+        let kept = table.built();
+        if let Some(cut) = cuts::of_table(&table, &kept) {
+            if cut.refused {
+                self.seen.sheets.refused.more();
+            } else {
+                self.seen.sheets.made.more();
+            }
+            self.seen.judge(cut.agrees);
         }
-        let seen = self.seen;
-        self.with_kept(seen.curve(kept.grown), Subject::Outcome, kept)
+        self.outcome(kept);
+        Some(())
     }
 
-    // What the sheets of a table came to, where it was cut.
-    fn cut(self, found: Cut) -> Self {
-        if !found.cut {
-            return self;
-        }
-        let seen = self.seen;
-        let subject = self.subject;
-        self.with(seen.cut(found.refused, found.agrees), subject)
+    fn growth(&mut self, words: &[u64]) -> Option<()> {
+        let kept = growths::of_words(words, &self.kept)?;
+        self.outcome(kept);
+        Some(())
     }
 
-    pub(crate) fn table(self, words: &[u64; MOST], count: usize) -> Self {
-        let kept = tables::of_words(words, count);
-        self.cut(cuts::of_words(words, count, kept)).outcome(kept)
-    }
-
-    pub(crate) fn growth(self, words: &[u64; MOST], count: usize) -> Self {
-        let last = self.kept;
-        self.outcome(growths::of_words(words, count, last))
-    }
-
-    pub(crate) fn told(self, words: &[u64; MOST]) -> Self {
-        let subject = self.subject;
-        let Subject::Outcome = subject else {
-            return self.strange_line();
+    // A refusal leaves no curve to tell or to ask.
+    fn told(&mut self, refusal: u64, sections: u64) -> Option<()> {
+        let Subject::Outcome = self.subject else {
+            return None;
         };
-        let seen = self.seen;
-        let kept = self.kept;
-        let outcome = kept.outcome;
-        let grown = kept.grown;
-        self.with(
-            seen.told(grown, words[0] != 0, curves::went(outcome, words)),
-            curve_in(outcome),
-        )
+        let Kept { outcome, grown, .. } = self.kept?;
+        let curves = self.seen.curves(grown);
+        if refusal == 0 {
+            curves.made.more();
+        } else {
+            curves.refused.more();
+        }
+        self.seen.judge(curves::went(outcome, refusal, sections));
+        self.subject = match outcome {
+            Ok(made) => Subject::Curve(made, 0),
+            Err(_) => Subject::Nothing,
+        };
+        Some(())
     }
 
-    fn curve_record(self, made: Curve, lines: usize, words: &[u64; MOST]) -> Self {
+    fn curve_record(
+        &mut self,
+        made: Curve,
+        lines: usize,
+        words: &[u64; records::WORDS],
+    ) -> Option<()> {
         if made.sections <= lines {
-            return self.strange_line();
+            return None;
         }
-        let seen = self.seen;
-        let kept = self.kept;
-        self.with(
-            seen.curve_record(kept.grown, curves::record_agrees(kept, lines, words)),
-            Subject::Record(made, lines),
-        )
+        let kept = self.kept.as_ref()?;
+        self.seen.curves(kept.grown).records.more();
+        self.seen.judge(curves::record_agrees(kept, lines, words));
+        self.subject = Subject::Record(made, lines);
+        Some(())
     }
 
-    pub(crate) fn knots(self, words: &[u64; MOST]) -> Self {
-        let subject = self.subject;
-        let Subject::Record(made, lines) = subject else {
-            return self.strange_line();
+    fn knots(&mut self, words: &[u64; 3]) -> Option<()> {
+        let Subject::Record(made, lines) = self.subject else {
+            return None;
         };
         // A record past the last is never told. With this, one more can be counted.
         if made.sections <= lines {
-            return self.strange_line();
+            return None;
         }
-        let seen = self.seen;
-        let kept = self.kept;
-        self.with(
-            seen.curve_knots(kept.grown, curves::knots_agree(kept, lines, words)),
-            Subject::Curve(made, lines + 1),
-        )
+        let kept = self.kept.as_ref()?;
+        self.seen.curves(kept.grown).knots.more();
+        self.seen.judge(curves::knots_agree(kept, lines, words));
+        self.subject = Subject::Curve(made, lines + 1);
+        Some(())
     }
 
-    pub(crate) fn tail(self, words: &[u64; MOST]) -> Self {
-        let subject = self.subject;
-        let Subject::Curve(made, lines) = subject else {
-            return self.strange_line();
+    fn tail(&mut self, words: &[u64; 3]) -> Option<()> {
+        let Subject::Curve(made, lines) = self.subject else {
+            return None;
         };
         if lines != made.sections {
-            return self.strange_line();
+            return None;
         }
-        let seen = self.seen;
-        self.with(
-            seen.curve_line(curves::tail_agrees(made, words)),
-            Subject::Ended(made),
-        )
+        self.seen.judge(curves::tail_agrees(made, words));
+        self.subject = Subject::Ended(made);
+        Some(())
     }
 
-    pub(crate) fn nodes(self, words: &[u64; MOST], count: usize) -> Self {
-        let subject = self.subject;
-        let Subject::Ended(made) = subject else {
-            return self.strange_line();
+    fn nodes(&mut self, words: &[u64]) -> Option<()> {
+        let Subject::Ended(made) = self.subject else {
+            return None;
         };
-        let kept = self.kept;
-        if count != kept.knots {
-            return self.strange_line();
+        let kept = self.kept.as_ref()?;
+        if words.len() != kept.knots.as_slice().len() {
+            return None;
         }
-        let seen = self.seen;
-        self.with(
-            seen.curve_line(curves::nodes_agree(kept, words)),
-            Subject::Noded(made),
-        )
+        self.seen
+            .judge(curves::list_agrees(&kept.lent.nodes, words));
+        self.subject = Subject::Noded(made);
+        Some(())
     }
 
     // The column, and then the strips from knot to knot, which no line tells.
-    pub(crate) fn column(self, words: &[u64; MOST], count: usize) -> Self {
-        let subject = self.subject;
-        let Subject::Noded(made) = subject else {
-            return self.strange_line();
+    fn column(&mut self, words: &[u64]) -> Option<()> {
+        let Subject::Noded(made) = self.subject else {
+            return None;
         };
-        let kept = self.kept;
-        if count != kept.knots {
-            return self.strange_line();
+        let kept = self.kept.as_ref()?;
+        if words.len() != kept.knots.as_slice().len() {
+            return None;
         }
-        let seen = self.seen;
         let run = strips::run_of(kept, made);
-        self.with(
-            seen.column(kept.grown, count, curves::column_agrees(kept, words))
-                .run(kept.grown, made.sections, run.agrees)
-                .run_refused(run.refused),
-            Subject::Whole(made),
-        )
+        let curves = self.seen.curves(kept.grown);
+        curves.totals.more_by(words.len() as u64);
+        curves.run.more_by(made.sections as u64);
+        self.seen
+            .judge(curves::list_agrees(&kept.lent.column, words));
+        self.seen.judge(run.agrees);
+        self.seen.runs_refused.more_where(run.refused);
+        self.subject = Subject::Whole(made);
+        Some(())
     }
 
-    pub(crate) fn strip(self, words: &[u64; MOST]) -> Self {
-        let subject = self.subject;
-        let Subject::Whole(made) = subject else {
-            return self.strange_line();
+    fn strip(&mut self, words: &[u64; 5]) -> Option<()> {
+        let Subject::Whole(made) = self.subject else {
+            return None;
         };
-        if 1 < words[0] {
-            return self.strange_line();
-        }
-        let seen = self.seen;
-        let kept = self.kept;
-        self.with(
-            seen.strip(
-                kept.grown,
-                strips::at_knots(kept, words),
-                strips::agrees(kept, made, words),
-            )
-            .by_mark(marks::by_mark(words[4])),
-            subject,
-        )
+        let [allow, a, b, refusal, number] = *words;
+        let asked = made.with_extrapolation(kept::flag(allow)?);
+        let kept = self.kept.as_ref()?;
+        let curves = self.seen.curves(kept.grown);
+        curves.strips.more();
+        curves
+            .between
+            .more_where(strips::places_of(kept, a, b).is_some());
+        self.seen.judge(strips::agrees(kept, asked, a, b, Told { refusal, number }));
+        self.seen.not_finite.more_by(by_mark(number));
+        Some(())
     }
 
-    pub(crate) fn curve_query(self, words: &[u64; MOST]) -> Self {
-        let subject = self.subject;
-        let Subject::Whole(made) = subject else {
-            return self.strange_line();
+    fn curve_query(&mut self, words: &[u64; 5]) -> Option<()> {
+        let Subject::Whole(made) = self.subject else {
+            return None;
         };
-        if 1 < words[0] {
-            return self.strange_line();
-        }
-        let seen = self.seen;
-        let kept = self.kept;
-        self.with(
-            seen.curve_query(kept.grown, curves::answers(kept, made, words))
-                .by_mark(marks::by_mark(words[3]))
-                .by_mark(marks::by_mark(words[4])),
-            subject,
-        )
-    }
-}
-
-// A refusal leaves no curve to tell or to ask.
-fn curve_in(outcome: Outcome) -> Subject {
-    match outcome {
-        Outcome::Curve(made) => Subject::Curve(made, 0),
-        Outcome::Refused(_) => Subject::Nothing,
-        Outcome::Nothing => Subject::Nothing,
+        let [allow, x, refusal, value, primitive] = *words;
+        let asked = made.with_extrapolation(kept::flag(allow)?);
+        let kept = self.kept.as_ref()?;
+        let price = Told {
+            refusal,
+            number: value,
+        };
+        let total = Told {
+            refusal,
+            number: primitive,
+        };
+        self.seen.curves(kept.grown).queries.more();
+        self.seen
+            .judge(curves::answers(kept, asked, x, price, total));
+        self.seen.not_finite.more_by(by_mark(value));
+        self.seen.not_finite.more_by(by_mark(primitive));
+        Some(())
     }
 }

@@ -4,7 +4,6 @@
 mod curves;
 mod cuts;
 mod defaults;
-mod file;
 mod groups;
 mod growths;
 mod kept;
@@ -21,11 +20,12 @@ mod words;
 
 ghost use Rattle.std.specs.Prelude.{◌≡◌, ◌≤◌, IfOk, length};
 
-use crate::seen::{Curves, Seen, Sheets};
+use crate::groups::State;
+use crate::seen::{Curves, KINDS, Seen};
 use std::io;
 use std::io::Read;
 
-// Room for the whole file of answers.
+// Room for the whole file of answers. By itself: antt runs out of stack where `main` has the array.
 fn room() -> [u8; 1048576]
     ensures { 1048576 ≡ length result }
 {
@@ -47,84 +47,69 @@ fn read_full<R: Read>(reader: &mut R, buffer: &mut [u8]) -> io::Result<usize>
     Ok(done)
 }
 
-fn print_count(out: &impl Print, name: &str, n: u64) -> io::Result<()> {
-    println!(out; "{name} {n}")
+// The kinds, in the order in which they are counted.
+const NAMES: [&str; KINDS] = [
+    "EverywhereConstant",
+    "ConstantGrad",
+    "ConvexMonotone2",
+    "ConvexMonotone3",
+    "ConvexMonotone4",
+    "ConvexMonotone4Min",
+    "ConvexMonotone4Min split",
+    "Quadratic",
+    "QuadraticMin",
+    "QuadraticMin split",
+    "Combination",
+];
+
+// What was seen of curves that were asked for by this name, made by that one, and of each of which so much was told.
+fn print_curves(
+    out: &impl Print,
+    asked: &str,
+    made: &str,
+    each: &str,
+    n: &Curves,
+) -> io::Result<()> {
+    println!(out; "{asked} {}", n.asked.0)?;
+    println!(out; "{asked} refused {}", n.refused.0)?;
+    println!(out; "{made} {}", n.made.0)?;
+    println!(out; "{each} records {}", n.records.0)?;
+    println!(out; "{each} knots {}", n.knots.0)?;
+    println!(out; "{each} column entries {}", n.totals.0)?;
+    println!(out; "{each} queries {}", n.queries.0)?;
+    println!(out; "{each} strips {}", n.strips.0)?;
+    println!(out; "{each} strips between knots {}", n.between.0)?;
+    println!(out; "{each} strips in runs {}", n.run.0)
 }
 
-fn print_convex(out: &impl Print, n: [u64; seen::KINDS]) -> io::Result<()> {
-    print_count(out, "sections ConvexMonotone2", n[2])?;
-    print_count(out, "sections ConvexMonotone3", n[3])?;
-    print_count(out, "sections ConvexMonotone4", n[4])?;
-    print_count(out, "sections ConvexMonotone4Min", n[5])?;
-    print_count(out, "sections ConvexMonotone4Min split", n[9])
+fn print(out: &impl Print, seen: &Seen) -> io::Result<()> {
+    println!(out; "defaults {}", seen.defaults.0)?;
+    println!(out; "roots {}", seen.roots.0)?;
+    for (name, n) in NAMES.iter().zip(&seen.sections) {
+        println!(out; "sections {name} {}", n.0)?;
+    }
+    println!(out; "records {}", seen.records.0)?;
+    println!(out; "queries {}", seen.queries.0)?;
+    print_curves(out, "builds", "curves", "curve", &seen.built)?;
+    print_curves(out, "growths", "grown curves", "grown", &seen.grown)?;
+    println!(out; "tables in sheets {}", seen.sheets.made.0)?;
+    println!(out; "tables in sheets refused {}", seen.sheets.refused.0)?;
+    println!(out; "numbers that are not finite {}", seen.not_finite.0)?;
+    println!(out; "runs refused for such a number {}", seen.runs_refused.0)?;
+    println!(out; "lines of no known kind {}", seen.strange.0)?;
+    println!(out; "mismatches {}", seen.mismatches.0)
 }
 
-fn print_quadratic(out: &impl Print, n: [u64; seen::KINDS]) -> io::Result<()> {
-    print_count(out, "sections Quadratic", n[6])?;
-    print_count(out, "sections QuadraticMin", n[7])?;
-    print_count(out, "sections QuadraticMin split", n[10])
-}
-
-fn print_sections(out: &impl Print, n: [u64; seen::KINDS]) -> io::Result<()> {
-    print_count(out, "sections EverywhereConstant", n[0])?;
-    print_count(out, "sections ConstantGrad", n[1])?;
-    print_convex(out, n)?;
-    print_quadratic(out, n)?;
-    print_count(out, "sections Combination", n[8])
-}
-
-fn print_built(out: &impl Print, n: Curves) -> io::Result<()> {
-    print_count(out, "builds", n.asked)?;
-    print_count(out, "builds refused", n.refused)?;
-    print_count(out, "curves", n.made)?;
-    print_count(out, "curve records", n.records)?;
-    print_count(out, "curve knots", n.knots)?;
-    print_count(out, "curve column entries", n.totals)?;
-    print_count(out, "curve queries", n.queries)?;
-    print_count(out, "curve strips", n.strips)?;
-    print_count(out, "curve strips between knots", n.between)?;
-    print_count(out, "curve strips in runs", n.run)
-}
-
-fn print_grown(out: &impl Print, n: Curves) -> io::Result<()> {
-    print_count(out, "growths", n.asked)?;
-    print_count(out, "growths refused", n.refused)?;
-    print_count(out, "grown curves", n.made)?;
-    print_count(out, "grown records", n.records)?;
-    print_count(out, "grown knots", n.knots)?;
-    print_count(out, "grown column entries", n.totals)?;
-    print_count(out, "grown queries", n.queries)?;
-    print_count(out, "grown strips", n.strips)?;
-    print_count(out, "grown strips between knots", n.between)?;
-    print_count(out, "grown strips in runs", n.run)
-}
-
-fn print_sheets(out: &impl Print, n: Sheets) -> io::Result<()> {
-    print_count(out, "tables in sheets", n.made)?;
-    print_count(out, "tables in sheets refused", n.refused)
-}
-
-fn print(out: &impl Print, seen: Seen) -> io::Result<()> {
-    print_count(out, "defaults", seen.defaults)?;
-    print_count(out, "roots", seen.roots)?;
-    let sections = seen.sections;
-    print_sections(out, sections)?;
-    print_count(out, "records", seen.records)?;
-    print_count(out, "queries", seen.queries)?;
-    let built = seen.built;
-    print_built(out, built)?;
-    let grown = seen.grown;
-    print_grown(out, grown)?;
-    let sheets = seen.sheets;
-    print_sheets(out, sheets)?;
-    print_count(out, "numbers that are not finite", seen.not_finite)?;
-    print_count(out, "runs refused for such a number", seen.runs_refused)?;
-    print_count(out, "lines of no known kind", seen.strange)?;
-    print_count(out, "mismatches", seen.mismatches)
+fn replay(text: &[u8]) -> Seen {
+    let mut state = State::new();
+    for line in text.split_inclusive(|b| *b == b'\n') {
+        state.line(line);
+    }
+    state.seen
 }
 
 fn main(rt: HostRuntime) -> io::Result<()> {
     let mut text = room();
     let n = read_full(&mut rt.reader(), &mut text)?;
-    print(&rt, file::replay(&text[..n]))
+    print(&rt, &replay(&text[..n]))
 }

@@ -4,60 +4,66 @@ ghost use Rattle.std.specs.Prelude.{◌<◌};
 // The nine kinds, of which two are split or not.
 pub(crate) const KINDS: usize = 11;
 
+// A count, which stays where there is no room for more.
+#[derive(Clone, Copy, Default)]
+pub(crate) struct Count(pub u64);
+
+impl Count {
+    pub(crate) fn more(&mut self) {
+        self.more_by(1);
+    }
+
+    pub(crate) fn more_by(&mut self, many: u64) {
+        self.0 = self.0.saturating_add(many);
+    }
+
+    pub(crate) fn more_where(&mut self, holds: bool) {
+        self.more_by(u64::from(holds));
+    }
+}
+
 // What was seen of the curves that were built, or of those that were grown: `totals` are the entries of their columns, `between` the strips that
 // were priced by the places of their ends too, and `run` those that were priced in a run.
-#[derive(Clone, Copy)]
+#[derive(Clone, Copy, Default)]
 pub(crate) struct Curves {
-    pub asked: u64,
-    pub refused: u64,
-    pub made: u64,
-    pub records: u64,
-    pub knots: u64,
-    pub totals: u64,
-    pub queries: u64,
-    pub strips: u64,
-    pub between: u64,
-    pub run: u64,
+    pub asked: Count,
+    pub refused: Count,
+    pub made: Count,
+    pub records: Count,
+    pub knots: Count,
+    pub totals: Count,
+    pub queries: Count,
+    pub strips: Count,
+    pub between: Count,
+    pub run: Count,
 }
 
 // What was seen of the tables that were built in sheets too.
-#[derive(Clone, Copy)]
+#[derive(Clone, Copy, Default)]
 pub(crate) struct Sheets {
-    pub made: u64,
-    pub refused: u64,
+    pub made: Count,
+    pub refused: Count,
 }
 
 // `not_finite` are the values, primitives and strips of the original that are not finite, which are compared by the mark, and `runs_refused` the runs in
 // which one strip is not, which are refused whole.
-#[derive(Clone, Copy)]
+#[derive(Clone, Copy, Default)]
 pub(crate) struct Seen {
-    pub defaults: u64,
-    pub roots: u64,
-    pub sections: [u64; KINDS],
-    pub records: u64,
-    pub queries: u64,
+    pub defaults: Count,
+    pub roots: Count,
+    pub sections: [Count; KINDS],
+    pub records: Count,
+    pub queries: Count,
     pub built: Curves,
     pub grown: Curves,
     pub sheets: Sheets,
-    pub not_finite: u64,
-    pub runs_refused: u64,
-    pub strange: u64,
-    pub mismatches: u64,
+    pub not_finite: Count,
+    pub runs_refused: Count,
+    pub strange: Count,
+    pub mismatches: Count,
 }
 
-// So many more, unless there is no room for them.
-fn more_by(n: u64, count: u64) -> u64 {
-    if count <= 0xffff_ffff_ffff_ffff - n {
-        return n + count;
-    }
-    n
-}
-
-fn more(n: u64) -> u64 {
-    more_by(n, 1)
-}
-
-// Where a kind is counted, by its tag; the split ones stand behind the others.
+// Where a kind is counted, by its tag, in the order in which they are printed.
 fn kind_of(tag: u16) -> usize
     ensures { result < 11 }
 {
@@ -68,238 +74,30 @@ fn kind_of(tag: u16) -> usize
         0x0400 => 3,
         0x0500 => 4,
         0x0600 => 5,
-        0x0680 => 9,
-        0x2000 => 6,
-        0x4000 => 7,
-        0x5000 => 10,
-        _ => 8,
-    }
-}
-
-impl Curves {
-    fn none() -> Self {
-        Self {
-            asked: 0,
-            refused: 0,
-            made: 0,
-            records: 0,
-            knots: 0,
-            totals: 0,
-            queries: 0,
-            strips: 0,
-            between: 0,
-            run: 0,
-        }
-    }
-
-    fn asked(mut self) -> Self {
-        self.asked = more(self.asked);
-        self
-    }
-
-    fn told(mut self, refused: bool) -> Self {
-        if refused {
-            self.refused = more(self.refused);
-        } else {
-            self.made = more(self.made);
-        }
-        self
-    }
-
-    fn record(mut self) -> Self {
-        self.records = more(self.records);
-        self
-    }
-
-    fn knots(mut self) -> Self {
-        self.knots = more(self.knots);
-        self
-    }
-
-    // A column of so many entries.
-    fn column(mut self, entries: usize) -> Self {
-        self.totals = more_by(self.totals, entries as u64);
-        self
-    }
-
-    fn query(mut self) -> Self {
-        self.queries = more(self.queries);
-        self
-    }
-
-    fn strip(mut self, at_knots: bool) -> Self {
-        self.strips = more(self.strips);
-        if at_knots {
-            self.between = more(self.between);
-        }
-        self
-    }
-
-    // A run of so many strips.
-    fn run(mut self, strips: usize) -> Self {
-        self.run = more_by(self.run, strips as u64);
-        self
-    }
-}
-
-impl Sheets {
-    fn none() -> Self {
-        Self {
-            made: 0,
-            refused: 0,
-        }
-    }
-
-    fn cut(mut self, refused: bool) -> Self {
-        if refused {
-            self.refused = more(self.refused);
-        } else {
-            self.made = more(self.made);
-        }
-        self
+        0x0680 => 6,
+        0x2000 => 7,
+        0x4000 => 8,
+        0x5000 => 9,
+        _ => 10,
     }
 }
 
 impl Seen {
-    pub(crate) fn none() -> Self {
-        let built = Curves::none();
-        let grown = Curves::none();
-        let sheets = Sheets::none();
-        Self {
-            defaults: 0,
-            roots: 0,
-            sections: [0; KINDS],
-            records: 0,
-            queries: 0,
-            built,
-            grown,
-            sheets,
-            not_finite: 0,
-            runs_refused: 0,
-            strange: 0,
-            mismatches: 0,
-        }
+    pub(crate) fn section(&mut self, tag: u16) {
+        self.sections[kind_of(tag)].more();
     }
 
-    fn judged(mut self, agrees: bool) -> Self {
-        if !agrees {
-            self.mismatches = more(self.mismatches);
-        }
-        self
-    }
-
-    pub(crate) fn default(mut self, agrees: bool) -> Self {
-        self.defaults = more(self.defaults);
-        self.judged(agrees)
-    }
-
-    pub(crate) fn root(mut self, agrees: bool) -> Self {
-        self.roots = more(self.roots);
-        self.judged(agrees)
-    }
-
-    pub(crate) fn section(mut self, tag: u16) -> Self {
-        let kind = kind_of(tag);
-        let n = self.sections[kind];
-        self.sections[kind] = more(n);
-        self
-    }
-
-    pub(crate) fn record(mut self, agrees: bool) -> Self {
-        self.records = more(self.records);
-        self.judged(agrees)
-    }
-
-    pub(crate) fn query(mut self, agrees: bool) -> Self {
-        self.queries = more(self.queries);
-        self.judged(agrees)
-    }
-
-    fn curves(self, grown: bool) -> Curves {
-        let ones = self.grown;
-        let others = self.built;
+    // What was seen of grown curves, or of built ones.
+    pub(crate) fn curves(&mut self, grown: bool) -> &mut Curves {
         if grown {
-            return ones;
-        }
-        others
-    }
-
-    fn with_curves(mut self, grown: bool, curves: Curves) -> Self {
-        if grown {
-            self.grown = curves;
+            &mut self.grown
         } else {
-            self.built = curves;
+            &mut self.built
         }
-        self
     }
 
-    // A table that was built in sheets too: whether it was refused, and whether they came to what the whole did.
-    pub(crate) fn cut(mut self, refused: bool, agrees: bool) -> Self {
-        let sheets = self.sheets;
-        self.sheets = sheets.cut(refused);
-        self.judged(agrees)
-    }
-
-    pub(crate) fn curve(self, grown: bool) -> Self {
-        self.with_curves(grown, self.curves(grown).asked())
-    }
-
-    // What is told of a build or a growth: a refusal or a curve.
-    pub(crate) fn told(self, grown: bool, refused: bool, agrees: bool) -> Self {
-        self.with_curves(grown, self.curves(grown).told(refused))
-            .judged(agrees)
-    }
-
-    pub(crate) fn curve_record(self, grown: bool, agrees: bool) -> Self {
-        self.with_curves(grown, self.curves(grown).record())
-            .judged(agrees)
-    }
-
-    pub(crate) fn curve_knots(self, grown: bool, agrees: bool) -> Self {
-        self.with_curves(grown, self.curves(grown).knots())
-            .judged(agrees)
-    }
-
-    // A line about a curve that is counted by another.
-    pub(crate) fn curve_line(self, agrees: bool) -> Self {
-        self.judged(agrees)
-    }
-
-    pub(crate) fn curve_query(self, grown: bool, agrees: bool) -> Self {
-        self.with_curves(grown, self.curves(grown).query())
-            .judged(agrees)
-    }
-
-    pub(crate) fn column(self, grown: bool, entries: usize, agrees: bool) -> Self {
-        self.with_curves(grown, self.curves(grown).column(entries))
-            .judged(agrees)
-    }
-
-    pub(crate) fn strip(self, grown: bool, at_knots: bool, agrees: bool) -> Self {
-        self.with_curves(grown, self.curves(grown).strip(at_knots))
-            .judged(agrees)
-    }
-
-    pub(crate) fn run(self, grown: bool, strips: usize, agrees: bool) -> Self {
-        self.with_curves(grown, self.curves(grown).run(strips))
-            .judged(agrees)
-    }
-
-    // So many more numbers that were compared by the mark.
-    pub(crate) fn by_mark(mut self, count: u64) -> Self {
-        self.not_finite = more_by(self.not_finite, count);
-        self
-    }
-
-    pub(crate) fn run_refused(mut self, refused: bool) -> Self {
-        if refused {
-            self.runs_refused = more(self.runs_refused);
-        }
-        self
-    }
-
-    pub(crate) fn strange_line(mut self) -> Self {
-        self.strange = more(self.strange);
-        self
+    // Whether a line is as ours.
+    pub(crate) fn judge(&mut self, agrees: bool) {
+        self.mismatches.more_where(!agrees);
     }
 }

@@ -1,249 +1,156 @@
 // Strips of a curve: the lines `p`, and a run from knot to knot.
 use crate::kept::Kept;
+use crate::marks::Told;
 use crate::points::POINTS;
-use crate::words::MOST;
-use crate::{curves, kept, marks, points};
+use column::between::strip_between;
 use curve::curve::Curve;
-use query::answer::{ManyInNumbers, QueryAnswer};
+use numbers::Marked;
+use query::answer::{AnswerInNumbers, ManyInNumbers, number};
+use query::strip::strip;
+use query::strips::{run, strips};
+use refusal::Refusal;
 
-// The place of the knot with these bits, or the count of knots where there is none.
-fn place_of(xs: &[f64], bits: u64) -> usize {
-    let mut i = 0;
-    while i < xs.len() {
-        if numbers::to_bits(xs[i]) == bits {
-            return i;
-        }
-        i += 1;
-    }
-    i
+// The place of the knot with these bits.
+fn place_of(xs: &[f64], bits: u64) -> Option<usize> {
+    xs.iter().position(|x| numbers::to_bits(*x) == bits)
 }
 
-fn both_knots(xs: &[f64], words: &[u64; MOST]) -> bool {
-    place_of(xs, words[1]) < xs.len() && place_of(xs, words[2]) < xs.len()
+// The places of a strip's two ends, where both are knots.
+pub(crate) fn places_of(kept: &Kept, a: u64, b: u64) -> Option<(usize, usize)> {
+    let xs = kept.knots.as_slice();
+    Some((place_of(xs, a)?, place_of(xs, b)?))
 }
 
-// Whether both ends of the strip that a line tells are knots.
-pub(crate) fn at_knots(kept: Kept, words: &[u64; MOST]) -> bool {
-    let xs = kept.xs;
-    both_knots(points::first(&xs, kept.knots), words)
-}
-
-// Whether the strip is as a line tells by the places of its ends too, where both are knots.
-fn between_agrees(xs: &[f64], column: &[f64], words: &[u64; MOST]) -> bool {
-    if !both_knots(xs, words) {
-        return true;
-    }
-    let i = place_of(xs, words[1]);
-    let j = place_of(xs, words[2]);
-    curves::same(
-        column::between::strip_between(xs, column, i, j),
-        words[3],
-        words[4],
+// A curve's strip from one number to another.
+fn strip_of(kept: &Kept, made: Curve, a: f64, b: f64) -> Result<Marked, Refusal> {
+    strip(
+        kept.knots.as_slice(),
+        made,
+        &kept.lent.tags,
+        &kept.lent.slots,
+        a,
+        b,
     )
 }
 
-fn single_agrees(
-    xs: &[f64],
-    made: Curve,
-    tags: &[u16],
-    slots: &[f64],
-    words: &[u64; MOST],
-) -> bool {
-    let a = numbers::of_bits(words[1]);
-    let b = numbers::of_bits(words[2]);
-    curves::same(
-        query::strip::strip(xs, made, tags, slots, a, b),
-        words[3],
-        words[4],
-    )
+// A curve's strip from one knot to another, by their places.
+fn strip_at(kept: &Kept, i: usize, j: usize) -> Result<Marked, Refusal> {
+    strip_between(kept.knots.as_slice(), &kept.lent.column, i, j)
 }
 
 // Whether so many strips are refused for this one, or answered where the refusal is 0.
 fn is_told(told: ManyInNumbers, refusal: u64, strip: usize) -> bool {
-    kept::wide(told.refusal) == refusal && told.query == strip
-}
-
-fn untouched(out: [f64; 3]) -> bool {
-    if numbers::to_bits(out[0]) != 0 {
-        return false;
-    }
-    if numbers::to_bits(out[1]) != 0 {
-        return false;
-    }
-    numbers::to_bits(out[2]) == 0
+    u64::from(told.refusal) == refusal && told.query == strip
 }
 
 // What three strips came to, of which the first and the last are one and the same: the first that is refused is told, and nothing is written.
 fn three_agree(
-    around: QueryAnswer,
-    told: ManyInNumbers,
+    around: Result<Marked, Refusal>,
+    answered: ManyInNumbers,
     out: [f64; 3],
-    words: &[u64; MOST],
+    told: Told,
 ) -> bool {
-    let before = kept::wide(around.in_numbers().refusal);
+    let [first, middle, last] = [
+        numbers::to_bits(out[0]),
+        numbers::to_bits(out[1]),
+        numbers::to_bits(out[2]),
+    ];
+    let untouched = first == 0 && middle == 0 && last == 0;
+    let before = u64::from(AnswerInNumbers::from(around).refusal);
     if before != 0 {
-        return is_told(told, before, 0) && untouched(out);
+        return is_told(answered, before, 0) && untouched;
     }
-    let refusal = marks::refusal_of(words[3], words[4]);
+    let refusal = told.refusal_in_numbers();
     if refusal != 0 {
-        return is_told(told, refusal, 1) && untouched(out);
+        return is_told(answered, refusal, 1) && untouched;
     }
-    if !is_told(told, 0, 3) {
-        return false;
-    }
-    let first = numbers::to_bits(out[0]);
-    if numbers::to_bits(out[2]) != first {
-        return false;
-    }
-    numbers::to_bits(out[1]) == words[4] && curves::same(around, 0, first)
+    let own = Told {
+        refusal: 0,
+        number: first,
+    };
+    is_told(answered, 0, 3) && last == first && middle == told.number && own.agrees(around)
 }
 
 // Whether the strip is as a line tells with the strip from a to b before it and after it.
-fn between_two(
-    xs: &[f64],
-    made: Curve,
-    tags: &[u16],
-    slots: &[f64],
-    a: f64,
-    b: f64,
-    words: &[u64; MOST],
-) -> bool {
-    let starts = [a, numbers::of_bits(words[1]), a];
-    let ends = [b, numbers::of_bits(words[2]), b];
+fn between_two(kept: &Kept, made: Curve, around: (f64, f64), own: (f64, f64), told: Told) -> bool {
     let mut out = [0.0; 3];
-    let told = query::strips::strips(xs, made, tags, slots, &starts, &ends, &mut out).in_numbers(3);
+    let answered = strips(
+        kept.knots.as_slice(),
+        made,
+        &kept.lent.tags,
+        &kept.lent.slots,
+        &[around.0, own.0, around.0],
+        &[around.1, own.1, around.1],
+        &mut out,
+    );
+    let answered = ManyInNumbers::of(answered, 3);
     three_agree(
-        query::strip::strip(xs, made, tags, slots, a, b),
-        told,
+        strip_of(kept, made, around.0, around.1),
+        answered,
         out,
-        words,
+        told,
     )
 }
 
 // Whether the strip is as a line tells among others too: with the whole curve's before it and after it. Where the whole curve's is not finite, it refuses
 // all three, so the strip is asked among its own likes as well.
-fn among_others(xs: &[f64], made: Curve, tags: &[u16], slots: &[f64], words: &[u64; MOST]) -> bool {
-    if xs.len() == 0 {
-        return false;
-    }
-    let first = xs[0];
-    let last = xs[xs.len() - 1];
-    if !between_two(xs, made, tags, slots, first, last, words) {
-        return false;
-    }
-    let whole = query::strip::strip(xs, made, tags, slots, first, last);
-    if whole.in_numbers().refusal == 0 {
-        return true;
-    }
-    let a = numbers::of_bits(words[1]);
-    let b = numbers::of_bits(words[2]);
-    between_two(xs, made, tags, slots, a, b, words)
-}
-
-fn lent(
-    xs: &[f64],
-    made: Curve,
-    tags: &[u16],
-    slots: &[f64],
-    column: &[f64; POINTS],
-    words: &[u64; MOST],
-) -> bool {
-    if !single_agrees(xs, made, tags, slots, words) {
-        return false;
-    }
-    if !among_others(xs, made, tags, slots, words) {
-        return false;
-    }
-    between_agrees(xs, column, words)
+fn among_others(kept: &Kept, made: Curve, own: (f64, f64), told: Told) -> bool {
+    let whole = match kept.knots.as_slice() {
+        [] => return false,
+        [only] => (*only, *only),
+        [first, .., last] => (*first, *last),
+    };
+    between_two(kept, made, whole, own, told)
+        && (AnswerInNumbers::from(strip_of(kept, made, whole.0, whole.1)).refusal == 0
+            || between_two(kept, made, own, own, told))
 }
 
 // A line `p ALLOW A B REFUSAL PRICE`: whether the curve's strip from A to B is as it tells, alone, among others, and by the places of its ends.
-pub(crate) fn agrees(kept: Kept, made: Curve, words: &[u64; MOST]) -> bool {
-    let xs = kept.xs;
-    let tags = kept.tags;
-    let slots = kept.slots;
-    let column = kept.column;
-    let allowed = made.with_extrapolation(words[0] == 1);
-    lent(
-        points::first(&xs, kept.knots),
-        allowed,
-        &tags,
-        &slots,
-        &column,
-        words,
-    )
-}
-
-// The first refusal among strips, or 0, and which strip it is, or how many there are.
-#[derive(Clone, Copy)]
-struct First {
-    refusal: u64,
-    strip: usize,
-}
-
-impl First {
-    fn or(self, refusal: u64, strip: usize) -> First {
-        if self.refusal != 0 {
-            return self;
-        }
-        if refusal == 0 {
-            return self;
-        }
-        First { refusal, strip }
+pub(crate) fn agrees(kept: &Kept, made: Curve, a: u64, b: u64, told: Told) -> bool {
+    let own = (numbers::of_bits(a), numbers::of_bits(b));
+    if !told.agrees(strip_of(kept, made, own.0, own.1)) || !among_others(kept, made, own, told) {
+        return false;
+    }
+    match places_of(kept, a, b) {
+        None => true,
+        Some((i, j)) => told.agrees(strip_at(kept, i, j)),
     }
 }
 
 // Whether a strip from knot to knot is a number, the same by its ends and by its places, and what a run wrote: this number, or nothing where the run was
 // refused.
-fn step_agrees(single: QueryAnswer, between: QueryAnswer, price: u64, refused: bool) -> bool {
-    let number = numbers::to_bits(single.number());
-    if !curves::same(single, 0, number) {
-        return false;
-    }
-    if !curves::same(between, 0, number) {
-        return false;
-    }
-    if refused {
-        return price == 0;
-    }
-    price == number
+fn step_agrees(
+    single: Result<Marked, Refusal>,
+    between: Result<Marked, Refusal>,
+    price: u64,
+    refused: bool,
+) -> bool {
+    let number = numbers::to_bits(number(single));
+    let told = Told { refusal: 0, number };
+    told.agrees(single) && told.agrees(between) && price == (if refused { 0 } else { number })
 }
 
 // Whether the prices from knot to knot are those of the single strips, asked for by their ends and by their places. Where one is refused, so is the run:
 // the first is told and nothing is written, and the single ones are held against each other.
-fn steps_agree(
-    xs: &[f64],
-    made: Curve,
-    tags: &[u16],
-    slots: &[f64],
-    column: &[f64],
-    out: &[f64],
-    told: ManyInNumbers,
-) -> bool {
-    if xs.len() == 0 {
-        return false;
-    }
-    if out.len() < xs.len() {
+fn steps_agree(kept: &Kept, made: Curve, out: &[f64], told: ManyInNumbers) -> bool {
+    let xs = kept.knots.as_slice();
+    if xs.is_empty() || out.len() < xs.len() {
         return false;
     }
     let last = xs.len() - 1;
-    let refused = told.refusal != 0;
-    let mut first = First {
-        refusal: 0,
-        strip: last,
-    };
-    let mut i = 0;
-    while i < last {
+    let mut first = (0, last);
+    for i in 0..last {
         let price = numbers::to_bits(out[i]);
-        let single = query::strip::strip(xs, made, tags, slots, xs[i], xs[i + 1]);
-        let between = column::between::strip_between(xs, column, i, i + 1);
-        if !step_agrees(single, between, price, refused) {
+        let single = strip_of(kept, made, xs[i], xs[i + 1]);
+        if !step_agrees(single, strip_at(kept, i, i + 1), price, told.refusal != 0) {
             return false;
         }
-        first = first.or(kept::wide(single.in_numbers().refusal), i);
-        i += 1;
+        let refusal = u64::from(AnswerInNumbers::from(single).refusal);
+        if first.0 == 0 && refusal != 0 {
+            first = (refusal, i);
+        }
     }
-    is_told(told, first.refusal, first.strip)
+    is_told(told, first.0, first.1)
 }
 
 // Whether a run was refused, and whether it is as it is to be.
@@ -253,26 +160,20 @@ pub(crate) struct Run {
     pub agrees: bool,
 }
 
-fn run_lent(xs: &[f64], made: Curve, tags: &[u16], slots: &[f64], column: &[f64]) -> Run {
-    if xs.len() == 0 {
+// The strips from knot to knot, priced in one run: whether they are the single ones.
+pub(crate) fn run_of(kept: &Kept, made: Curve) -> Run {
+    let xs = kept.knots.as_slice();
+    if xs.is_empty() {
         return Run {
             refused: false,
             agrees: false,
         };
     }
     let mut out = [0.0; POINTS];
-    let told = query::strips::run(xs, made, tags, slots, xs, &mut out).in_numbers(xs.len() - 1);
+    let told = run(xs, made, &kept.lent.tags, &kept.lent.slots, xs, &mut out);
+    let told = ManyInNumbers::of(told, xs.len() - 1);
     Run {
         refused: told.refusal != 0,
-        agrees: steps_agree(xs, made, tags, slots, column, &out, told),
+        agrees: steps_agree(kept, made, &out, told),
     }
-}
-
-// The strips from knot to knot, priced in one run: whether they are the single ones.
-pub(crate) fn run_of(kept: Kept, made: Curve) -> Run {
-    let xs = kept.xs;
-    let tags = kept.tags;
-    let slots = kept.slots;
-    let column = kept.column;
-    run_lent(points::first(&xs, kept.knots), made, &tags, &slots, &column)
 }

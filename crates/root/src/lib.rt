@@ -1,7 +1,7 @@
 // The square root, correctly rounded, by whole-number arithmetic.
 #![tactic(auto)]
 
-ghost use Rattle.std.specs.Prelude.{◌≡◌, ◌⊎◌, ◌+◌, ◌*◌, ◌/◌, ◌%◌, ◌^◌, ◌≤◌, ◌<◌};
+ghost use Rattle.std.specs.Prelude.{◌≡◌, ◌+◌, ◌*◌, ◌/◌, ◌%◌, ◌^◌, ◌≤◌, ◌<◌, IfSome};
 ghost use Rattle.root.specs.Root.{root, nearest_root, scaled, pairs};
 ghost use Rattle.root.specs.Steps.{root_bits, units_of_bits};
 
@@ -44,7 +44,7 @@ fn normalise(q: u64, k: u64) -> Normalised
     requires { (0 < q) × (q < 2 ^ 53) × (k ≤ 2045) }
     ensures { (result.significand * 2 ^ 52 ≡ scaled (q * 2 ^ k)) × (result.exponent ≡ pairs (q * 2 ^ k) + 484) }
 {
-    let zeros = u64::leading_zeros(q) as u64;
+    let zeros = q.leading_zeros() as u64;
     let twice = k + 1033 - zeros;
     let significand = q << (zeros - 11 + twice % 2);
     Normalised {
@@ -83,10 +83,10 @@ fn special(a: f64) -> f64
         return a;
     }
     if a < 0.0 {
-        return 0.0 / 0.0;
+        return f64::NAN;
     }
     if numbers::is_finite(a) {
-        return f64::from_bits(plain(f64::to_bits(a)));
+        return f64::from_bits(plain(a.to_bits()));
     }
     a
 }
@@ -107,12 +107,12 @@ fn guess(a: f64, bits: u64) -> f64
     x + 0.5 * y * p * (a - x * x)
 }
 
-// The whole number nearest to the square root of s * 2^52, found from one close by, or 0 where g is not seen to be close. The square of g is
+// The whole number nearest to the square root of s * 2^52, found from one close by, or none where g is not seen to be close. The square of g is
 // whole * 2^44 + rest, exactly, and n - m is how far s * 2^52 lies above it. Up to 3 * 2^52 either way, 768 units of 2^44, g or one of its neighbours is nearest;
 // rest is below two units, so 766 are looked at below and 768 above.
-fn settle(s: u64, g: u64) -> u64
+fn settle(s: u64, g: u64) -> Option<u64>
     requires { (s < 2 ^ 54) × (2 ^ 52 ≤ g) × (g < 3 * 2 ^ 52) }
-    ensures { (result ≡ 0) ⊎ (result ≡ nearest_root (s * 2 ^ 52)) }
+    ensures { IfSome result (λ r. r ≡ nearest_root (s * 2 ^ 52)) }
 {
     let a = g / 0x40_0000;
     let b = g % 0x40_0000;
@@ -120,50 +120,45 @@ fn settle(s: u64, g: u64) -> u64
     let whole = a * a + ab / 0x20_0000;
     let rest = ab % 0x20_0000 * 0x80_0000 + b * b;
     let top = s * 256 + 766;
+    // `checked_sub` would put two more moves on the way of every root.
     if top < whole {
-        return 0;
+        return None;
     }
     let above = top - whole;
     if 1534 < above {
-        return 0;
+        return None;
     }
     let n = above * 0x1000_0000_0000;
     let m = rest + 0x2f_e000_0000_0000;
-    g + (m + g < n) as u64 - (n + g <= m) as u64
+    Some(g + (m + g < n) as u64 - (n + g <= m) as u64)
 }
 
-// The bits of the root of the normal number a with these bits: a guess, made right by whole numbers, or 0 where it was too far off. Of the guess only the
+// The bits of the root of the normal number a with these bits: a guess, made right by whole numbers, or none where it was too far off. Of the guess only the
 // significand is taken.
-fn normal(a: f64, bits: u64) -> u64
+fn normal(a: f64, bits: u64) -> Option<u64>
     requires { (2 ^ 52 ≤ bits) × (bits < 2047 * 2 ^ 52) }
-    ensures { (result ≡ 0) ⊎ (result ≡ root_bits (units_of_bits bits)) }
+    ensures { IfSome result (λ r. r ≡ root_bits (units_of_bits bits)) }
 {
     let q = bits % 0x10_0000_0000_0000 + 0x10_0000_0000_0000;
     let n = normalise(q, bits / 0x10_0000_0000_0000 - 1);
     let x = guess(a, bits);
-    if x != x {
-        return 0;
+    if x.is_nan() {
+        return None;
     }
-    let g = f64::to_bits(x) % 0x10_0000_0000_0000 + 0x10_0000_0000_0000;
-    let r = settle(n.significand, g);
-    if r == 0 {
-        return 0;
-    }
-    n.exponent * 0x10_0000_0000_0000 + r
+    let g = x.to_bits() % 0x10_0000_0000_0000 + 0x10_0000_0000_0000;
+    let r = settle(n.significand, g)?;
+    Some(n.exponent * 0x10_0000_0000_0000 + r)
 }
 
 // The square root of a, rounded to the nearest. Nearly every number is normal, and is tested for that alone.
 pub fn sqrt(a: f64) -> f64
     ensures { result ≡ root a }
 {
-    if 0.0 < a {
-        if a <= 1.7976931348623157e308 {
-            let bits = f64::to_bits(a);
-            if 0x10_0000_0000_0000 <= bits {
-                let r = normal(a, bits);
-                if r != 0 {
-                    return f64::from_bits(r);
-                }
+    if 0.0 < a && a <= f64::MAX {
+        let bits = a.to_bits();
+        if 0x10_0000_0000_0000 <= bits {
+            if let Some(r) = normal(a, bits) {
+                return f64::from_bits(r);
             }
         }
     }

@@ -31,26 +31,21 @@ impl Combination {
         ensures { result ≡ value self x }
     {
         let weight = self.quadraticity;
-        let quadratic = self.quadratic_helper;
-        let other = self.conv_mono_helper;
-        weight * quadratic.value(x) + (1.0 - weight) * other.value(x)
+        weight * self.quadratic_helper.value(x) + (1.0 - weight) * self.conv_mono_helper.value(x)
     }
 
     pub fn primitive(self, x: f64) -> f64
         ensures { result ≡ primitive self x }
     {
         let weight = self.quadraticity;
-        let quadratic = self.quadratic_helper;
-        let other = self.conv_mono_helper;
-        weight * quadratic.primitive(x) + (1.0 - weight) * other.primitive(x)
+        weight * self.quadratic_helper.primitive(x)
+            + (1.0 - weight) * self.conv_mono_helper.primitive(x)
     }
 
     pub fn f_next(self) -> f64
         ensures { result ≡ f_next self }
     {
         let weight = self.quadraticity;
-        let quadratic = self.quadratic_helper;
-        let other = self.conv_mono_helper;
-        weight * quadratic.f_next() + (1.0 - weight) * other.f_next()
+        weight * self.quadratic_helper.f_next() + (1.0 - weight) * self.conv_mono_helper.f_next()
     }
 }

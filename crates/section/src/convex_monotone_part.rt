@@ -17,6 +17,7 @@ pub enum ConvexMonotonePart {
 }
 
 impl ConvexMonotonePart {
+    #[tactic(auto, unfolding(crate::specs::ConvexMonotonePart::value))]
     pub fn value(self, x: f64) -> f64
         ensures { result ≡ value self x }
     {
@@ -28,6 +29,7 @@ impl ConvexMonotonePart {
         }
     }
 
+    #[tactic(auto, unfolding(crate::specs::ConvexMonotonePart::primitive))]
     pub fn primitive(self, x: f64) -> f64
         ensures { result ≡ primitive self x }
     {
@@ -39,6 +41,7 @@ impl ConvexMonotonePart {
         }
     }
 
+    #[tactic(auto, unfolding(crate::specs::ConvexMonotonePart::f_next))]
     pub fn f_next(self) -> f64
         ensures { result ≡ f_next self }
     {

@@ -1,4 +1,4 @@
-// The nine kinds of section that a curve is made of, and the choice among them.
+// The nine kinds of section that a curve is made of, and the choice among them. Their names, fields and parameters carry over from the original.
 #![tactic(auto)]
 
 pub mod combination;

@@ -13,6 +13,7 @@ pub enum QuadraticPart {
 }
 
 impl QuadraticPart {
+    #[tactic(auto, unfolding(crate::specs::QuadraticPart::value))]
     pub fn value(self, x: f64) -> f64
         ensures { result ≡ value self x }
     {
@@ -22,6 +23,7 @@ impl QuadraticPart {
         }
     }
 
+    #[tactic(auto, unfolding(crate::specs::QuadraticPart::primitive))]
     pub fn primitive(self, x: f64) -> f64
         ensures { result ≡ primitive self x }
     {
@@ -31,6 +33,7 @@ impl QuadraticPart {
         }
     }
 
+    #[tactic(auto, unfolding(crate::specs::QuadraticPart::f_next))]
     pub fn f_next(self) -> f64
         ensures { result ≡ f_next self }
     {

@@ -28,7 +28,9 @@ pub enum Section {
 }
 
 impl Section {
+    // An arm for each kind, and no trait of theirs: a trait's members and impls would be longer than the arms that they save.
     // What the formula gives, with no mark yet.
+    #[tactic(auto, unfolding(crate::specs::Section::value))]
     fn formula_value(self, x: f64) -> f64
         ensures { result ≡ value self x }
     {
@@ -45,6 +47,7 @@ impl Section {
         }
     }
 
+    #[tactic(auto, unfolding(crate::specs::Section::primitive))]
     fn formula_primitive(self, x: f64) -> f64
         ensures { result ≡ primitive self x }
     {
@@ -73,6 +76,7 @@ impl Section {
         mark(self.formula_primitive(x))
     }
 
+    #[tactic(auto, unfolding(crate::specs::Section::f_next))]
     pub fn f_next(self) -> f64
         ensures { result ≡ f_next self }
     {

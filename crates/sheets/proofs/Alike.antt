@@ -1,4 +1,5 @@
 -- A sheet with the whole's nodes at its ends and the whole's total before it: its nodes, totals and sections are those of the whole at its places.
+use Rattle.std.specs.Prelude.{None, Some}
 use Prim.Native.Nat as nat
 use Prim.Native.Nat.{ℕ, suc, ◌+◌, ◌-◌, ◌*◌, ◌/◌, ◌%◌, ◌≤◌, ◌<◌}
 use native.Mathlib.Omega.{arith}
@@ -14,10 +15,8 @@ use Rattle.numbers.specs.Sizes.{slot_count}
 use Rattle.numbers.specs.Words.{zero}
 use Rattle.numbers.proofs.Ways.{lt_or_le}
 use Rattle.record.specs.Tag.{tag_of}
-use Rattle.table.specs.Table.{at, outer, or_given, middle_at, second, second_last, first_node, last_node, node_at, total_at}
+use Rattle.table.specs.Table.{at, outer, or_given, middle_at, second, second_last, first_node, last_node, node_at, total_at, End}
 use Rattle.table.specs.declared.method.ConvexMonotone.{ConvexMonotone}
-use Rattle.table.specs.declared.ends.End.{End}
-use Rattle.table.specs.declared.ends.End.TheVariants as end
 use Rattle.table.specs.declared.ends.Frame.{Frame}
 use Rattle.choice.specs.Choice.{section_of}
 use Rattle.assembly.specs.Sections.{period_at, section_at, tag_at, record_for, slot_at, tail_of}
@@ -80,8 +79,8 @@ module _ (x y : List Float) (method : ConvexMonotone) (n : 3 ≤ length x) (same
       let q : length (part p x) ≡ 2 = (let w = points in omega (arith, w, r)) in
       simp (eq-eqb (length (part p x)) 2 q)
       (⊎_elim
-      (λ (z : (p.to ≡ length x - 1) × (p.right ≡ end.Free)). absurd (let w = z.0 in omega (arith, w)))
-      (λ (z : (p.to < length x - 1) × (p.right ≡ end.Given (node_at x y G p.to))). ap (λ (r : End). or_given r zero) z.1 ∙ ap (node_at x y G) one)
+      (λ (z : (p.to ≡ length x - 1) × (p.right ≡ None)). absurd (let w = z.0 in omega (arith, w)))
+      (λ (z : (p.to < length x - 1) × (p.right ≡ Some (node_at x y G p.to))). ap (λ (r : End). or_given r zero) z.1 ∙ ap (node_at x y G) one)
       fair.right_end))
       (lt_or_le 1 m)
 
@@ -94,14 +93,14 @@ module _ (x y : List Float) (method : ConvexMonotone) (n : 3 ≤ length x) (same
   first_same =
       node_first (part p x) (part p y) F
       ∙ ⊎_elim
-      (λ (z : (p.from ≡ 0) × (p.left ≡ end.Free)).
+      (λ (z : (p.from ≡ 0) × (p.left ≡ None)).
       let e = z.0 in
       ap (λ (l : End). or_given l (outer method.force_positive (at (part p y) 1) (second (part p x) (part p y) F))) z.1
       ∙ ap (λ (v : Float). outer method.force_positive v (second (part p x) (part p y) F)) (y_at 1 1 (let r = fair.rising in omega (arith, r)) (omega (arith, e)))
       ∙ ap (outer method.force_positive (at y 1)) (second_same e ∙ sym second_whole)
       ∙ sym (node_first x y G)
       ∙ ap (node_at x y G) (sym e))
-      (λ (z : (0 < p.from) × (p.left ≡ end.Given (node_at x y G p.from))). ap (λ (l : End). or_given l (outer method.force_positive (at (part p y) 1) (second (part p x) (part p y) F))) z.1)
+      (λ (z : (0 < p.from) × (p.left ≡ Some (node_at x y G p.from))). ap (λ (l : End). or_given l (outer method.force_positive (at (part p y) 1) (second (part p x) (part p y) F))) z.1)
       fair.left_end
 
   -- the last node, where it is free
@@ -121,8 +120,8 @@ module _ (x y : List Float) (method : ConvexMonotone) (n : 3 ≤ length x) (same
       let q : length (part p x) ≡ 2 = omega (arith, w, r) in
       simp (eq-eqb (length (part p x)) 2 q)
       (⊎_elim
-      (λ (z : (p.from ≡ 0) × (p.left ≡ end.Free)). absurd (let v = z.0 in omega (arith, v, n, e)))
-      (λ (z : (0 < p.from) × (p.left ≡ end.Given (node_at x y G p.from))).
+      (λ (z : (p.from ≡ 0) × (p.left ≡ None)). absurd (let v = z.0 in omega (arith, v, n, e)))
+      (λ (z : (0 < p.from) × (p.left ≡ Some (node_at x y G p.from))).
       ap (λ (l : End). or_given l zero) z.1 ∙ ap (node_at x y G) (omega (arith, r, e, n)))
       fair.left_end))
       (lt_or_le 1 m)
@@ -140,14 +139,14 @@ module _ (x y : List Float) (method : ConvexMonotone) (n : 3 ≤ length x) (same
       let w = points in
       node_last (part p x) (part p y) F m (omega (arith, r)) (omega (arith, w))
       ∙ ⊎_elim
-      (λ (z : (p.to ≡ length x - 1) × (p.right ≡ end.Free)).
+      (λ (z : (p.to ≡ length x - 1) × (p.right ≡ None)).
       let e = z.0 in
       ap (λ (l : End). or_given l (outer method.force_positive (at (part p y) (length (part p x) - 1)) (second_last (part p x) (part p y) F))) z.1
       ∙ ap (λ (v : Float). outer method.force_positive v (second_last (part p x) (part p y) F)) (y_at (length (part p x) - 1) (length x - 1) (omega (arith, w)) (omega (arith, w, e, r)))
       ∙ ap (outer method.force_positive (at y (length x - 1))) (second_last_same e ∙ sym second_last_whole)
       ∙ sym (node_last x y G (length x - 1) (omega (arith, n)) refl)
       ∙ ap (node_at x y G) (sym e))
-      (λ (z : (p.to < length x - 1) × (p.right ≡ end.Given (node_at x y G p.to))). ap (λ (l : End). or_given l (outer method.force_positive (at (part p y) (length (part p x) - 1)) (second_last (part p x) (part p y) F))) z.1)
+      (λ (z : (p.to < length x - 1) × (p.right ≡ Some (node_at x y G p.to))). ap (λ (l : End). or_given l (outer method.force_positive (at (part p y) (length (part p x) - 1)) (second_last (part p x) (part p y) F))) z.1)
       fair.right_end
 
   pub nodes_same : (k : ℕ) → k ≤ m → node_at (part p x) (part p y) F k ≡ node_at x y G (a + k)

@@ -1,5 +1,6 @@
 -- The sheets of a table that is cut at inner knots: each is a stretch with a node given for one end at least, every period is in one of them, and those that are
 -- handed the whole's numbers are fair.
+use Rattle.std.specs.Prelude.{None, Some}
 use Prim.Native.Nat.{ℕ, zero, suc, ◌+◌, ◌-◌, ◌≤◌, ◌<◌}
 use native.Mathlib.Omega.{arith}
 use native.Mathlib.Nat.{le_refl}
@@ -13,21 +14,19 @@ use lib.Ieee.{Float}
 use lib.ListN.{length, get_or}
 use Rattle.numbers.proofs.Every.{all_at, and_split}
 use Rattle.numbers.proofs.Ways.{lt_or_le}
-use Rattle.table.specs.Table.{node_at}
+use Rattle.table.specs.Table.{node_at, End}
 use Rattle.table.specs.declared.method.ConvexMonotone.{ConvexMonotone}
-use Rattle.table.specs.declared.ends.End.{End}
-use Rattle.table.specs.declared.ends.End.TheVariants as end
 use Rattle.sheets.specs.Cuts.{start_of, finish_of, cut_fits, cuts_fit}
 use Rattle.sheets.specs.Pieces.{Piece, whole}
 use Rattle.sheets.specs.SameCurve.{CutTable, Call, piece_of, One, Complete, handed}
 use Rattle.sheets.specs.Sheet.{none_given}
 use Rattle.sheets.specs.Steps.{Fair}
 
-pub given_right : (l : End) (g : Float) → none_given l (end.Given g) ≡ false
-given_right end.Free g = refl
-given_right (end.Given h) g = refl
+pub given_right : (l : End) (g : Float) → none_given l (Some g) ≡ false
+given_right None g = refl
+given_right (Some h) g = refl
 
-pub given_left : (r : End) (l : End) (g : Float) → l ≡ end.Given g → none_given l r ≡ false
+pub given_left : (r : End) (l : End) (g : Float) → l ≡ Some g → none_given l r ≡ false
 given_left r l g e = rw e
 
 -- where sheets start and end
@@ -134,10 +133,10 @@ module _ (x y : List Float) (cuts : List ℕ) (t : CutTable x y cuts) where
     abbrev own : Piece
     own = piece_of n cuts (handed x y method cuts j)
 
-    left_end_lem : ((own.from ≡ 0) × (own.left ≡ end.Free)) ⊎ ((0 < own.from) × (own.left ≡ end.Given (node_at x y (whole method) own.from)))
+    left_end_lem : ((own.from ≡ 0) × (own.left ≡ None)) ⊎ ((0 < own.from) × (own.left ≡ Some (node_at x y (whole method) own.from)))
     left_end_lem = by (lt_or_le 0 j)
       where
-        by : (0 < j) ⊎ (j ≤ 0) → ((own.from ≡ 0) × (own.left ≡ end.Free)) ⊎ ((0 < own.from) × (own.left ≡ end.Given (node_at x y (whole method) own.from)))
+        by : (0 < j) ⊎ (j ≤ 0) → ((own.from ≡ 0) × (own.left ≡ None)) ⊎ ((0 < own.from) × (own.left ≡ Some (node_at x y (whole method) own.from)))
         by (inl u) =
             let z : j ≡ 0 → ⊥ = λ e. omega (arith, u) in
             let (a, _) = cut_fits_lem cuts n t.inner (j - 1) (omega (arith, l, u)) in
@@ -146,11 +145,11 @@ module _ (x y : List Float) (cuts : List ℕ) (t : CutTable x y cuts) where
             inr (omega (arith, a, w), rw (ne_eqb j 0 z))
         by (inr u) = let e = eq-eqb j 0 (omega (arith, u)) in inl (rw e, rw e)
 
-    right_end : ((own.to ≡ n - 1) × (own.right ≡ end.Free)) ⊎ ((own.to < n - 1) × (own.right ≡ end.Given (node_at x y (whole method) own.to)))
+    right_end : ((own.to ≡ n - 1) × (own.right ≡ None)) ⊎ ((own.to < n - 1) × (own.right ≡ Some (node_at x y (whole method) own.to)))
     right_end = by (lt_or_le j (length cuts))
       where
         by : (j < length cuts) ⊎ (length cuts ≤ j) →
-            ((own.to ≡ n - 1) × (own.right ≡ end.Free)) ⊎ ((own.to < n - 1) × (own.right ≡ end.Given (node_at x y (whole method) own.to)))
+            ((own.to ≡ n - 1) × (own.right ≡ None)) ⊎ ((own.to < n - 1) × (own.right ≡ Some (node_at x y (whole method) own.to)))
         by (inl u) =
             let z : j ≡ length cuts → ⊥ = λ e. omega (arith, u) in
             let (_, b) = cut_fits_lem cuts n t.inner j u in

@@ -1,4 +1,6 @@
 -- Demand 3 of the functions that run: both statements of `specs/SameCurve.antt` hold of the contracts of `build` and `sheet` as the checker reads them.
+use Rattle.curve.specs.Curve.{Built}
+use Rattle.std.specs.Prelude.{None, Option}
 use Prim.Native.Nat.{ℕ, ◌+◌, ◌-◌, ◌*◌, ◌≤◌, ◌<◌}
 use native.Mathlib.Omega.{arith}
 use mathlib.Core.Bool.{Bool, false}
@@ -14,24 +16,20 @@ use lib.ListN.{length}
 use Rattle.numbers.specs.Overlay.{overlay}
 use Rattle.numbers.specs.Sizes.{slot_count}
 use Rattle.table.specs.Buffers.{Buffers, Outcome, buffers, outcome}
-use Rattle.table.specs.Table.{node_at}
+use Rattle.table.specs.Table.{node_at, End}
 use Rattle.table.specs.declared.method.ConvexMonotone.{ConvexMonotone}
-use Rattle.table.specs.declared.ends.End.{End}
 use Rattle.table.specs.declared.ends.Seam.{Seam}
-use Rattle.table.specs.declared.ends.Seam.TheVariants as seam
 use Rattle.assembly.specs.Sections.{tag_at, slot_at, tail_of}
 use Rattle.assembly.specs.declared.sections.Tail.{Tail}
 use Rattle.curve.specs.Build.{build_outcome}
-use Rattle.curve.specs.declared.curve.Built.{Built}
 use Rattle.curve.proofs.Accepted.{accepted_room}
 use Rattle.curve.specs.contracts.build.build
 use Rattle.curve.proofs.build.build.Kinds as build-kinds
 use Rattle.curve.proofs.build.build.Reads as build-reads
 use Rattle.sheets.specs.Pieces.{Piece, whole, part}
 use Rattle.sheets.specs.SameCurve.{CutTable, Call, piece_of, One, is_curve, tail_in, is_sheet, all_sheets, handed, answer_to, Calls, SameCurve, TakenFrom, SameAnywhere}
-use Rattle.sheets.specs.Sheet.{sheet_outcome}
+use Rattle.sheets.specs.Sheet.{sheet_outcome, SheetBuilt}
 use Rattle.sheets.specs.Steps.{Fair}
-use Rattle.sheets.specs.declared.sheet.SheetBuilt.{SheetBuilt}
 use Rattle.sheets.proofs.Alike.{points}
 use Rattle.sheets.proofs.Cuts.{covered, fair, map_one}
 use Rattle.sheets.proofs.Parts.{sheet_room}
@@ -43,7 +41,7 @@ use Rattle.sheets.proofs.sheet.sheet.Kinds as sheet-kinds
 use Rattle.sheets.proofs.sheet.sheet.Reads as sheet-reads
 
 -- what `build` and `sheet` leave, of arguments that are the same
-same_build : (x x' y y' : List Float) (m m' : ConvexMonotone) (h h' : Bool) (s s' : Seam) (b b' : Buffers) → x ≡ x' → y ≡ y' → m ≡ m' → h ≡ h' → s ≡ s' → b ≡ b' →
+same_build : (x x' y y' : List Float) (m m' : ConvexMonotone) (h h' : Bool) (s s' : Option Seam) (b b' : Buffers) → x ≡ x' → y ≡ y' → m ≡ m' → h ≡ h' → s ≡ s' → b ≡ b' →
     build_outcome x y m h s b ≡ build_outcome x' y' m' h' s' b'
 same_build x x' y y' m m' h h' s s' b b' ex ey em eh es eb = rw (ex, ey, em, eh, es, eb)
 
@@ -52,7 +50,7 @@ same_sheet : (x x' y y' : List Float) (m m' : ConvexMonotone) (l l' r r' : End) 
 same_sheet x x' y y' m m' l l' r r' s s' p p' b b' ex ey em el er es ep eb = rw (ex, ey, em, el, er, es, ep, eb)
 
 -- a call of `build`: some lifetimes, arguments with these values, and an outcome that its contract allows
-pub record BuildCall (x y : List Float) (method : ConvexMonotone) (hold : Bool) (joint : Seam) (b : Buffers) (o : Outcome Built) : Type 0 where
+pub record BuildCall (x y : List Float) (method : ConvexMonotone) (hold : Bool) (joint : Option Seam) (b : Buffers) (o : Outcome Built) : Type 0 where
   pub lifetimes : Lifetimes.Lfts 5
   pub args : World.ArgsD build.signature lifetimes
   pub answer : World.ResD build.signature lifetimes
@@ -75,7 +73,7 @@ pub record SheetCall (x y : List Float) (method : ConvexMonotone) (l r : End) (s
   pub leaves : let (_, (_, (_, (_, (_, (_, (_, (nodes, (tags, (slots, _)))))))))) = exit in o ≡ outcome answer nodes.now tags.now slots.now
 
 -- what they answer and leave is what the definitions say
-built : (x y : List Float) (method : ConvexMonotone) (hold : Bool) (joint : Seam) (b : Buffers) (o : Outcome Built) → BuildCall x y method hold joint b o → o ≡ build_outcome x y method hold joint b
+built : (x y : List Float) (method : ConvexMonotone) (hold : Bool) (joint : Option Seam) (b : Buffers) (o : Outcome Built) → BuildCall x y method hold joint b o → o ≡ build_outcome x y method hold joint b
 built x y method hold joint b o s =
     let (knots, averages, settings, held, seamed, lent) = s.asked in
     s.leaves ∙ s.allowed ∙ same_build _ _ _ _ _ _ _ _ _ _ _ _ knots averages settings held seamed lent
@@ -117,7 +115,7 @@ module _ (x y : List Float) (method : ConvexMonotone) (cuts : List ℕ) (t : Cut
 
 pub demand_3 : SameCurve BuildCall SheetCall
 demand_3 x y method cuts t b room w bw calls complete answers c run-them =
-    let ew = built x y method false seam.Absent b w bw in
+    let ew = built x y method false None b w bw in
     let (ea, ec) = run x y method cuts t calls b answers c run-them in
     let ps = map (piece_of (length x) cuts) calls in
     let all = covered x y cuts t calls complete in (
@@ -158,14 +156,14 @@ demand_3_anywhere x y method cuts t b w bw accepted j l c o bo answered =
     let p = piece_of (length x) cuts (handed x y method cuts j) in
     let tab = table x y method cuts t in
     let f = fair x y cuts t method j l in
-    let ew = built x y method false seam.Absent b w bw in
+    let ew = built x y method false None b w bw in
     let eo = sheeted _ _ _ _ _ _ _ _ _ bo in
     let taken = whole_taken x y method b (sym (ap (λ (z : Outcome Built). is_curve z.answer) ew) ∙ accepted) in
     let sheet-is-taken = sheet_taken x y method p c (sym (ap (λ (z : Outcome SheetBuilt). is_sheet z.answer) eo) ∙ answered) in
     let tail : tail_in w.answer ≡ tail_of x y (whole method) = ap (λ (z : Outcome Built). tail_in z.answer) ew ∙ ap tail_in (whole_answer x y method tab b taken) in
     let whole-left = ap (λ (z : Outcome Built). z.buffers) ew ∙ after_whole x y method tab b taken in
     let left = ap (λ (z : Outcome SheetBuilt). z.buffers) eo ∙ after_one x y method tab p f c sheet-is-taken in
-    let all = accepted_room x y method seam.Absent _ _ _ taken in
+    let all = accepted_room x y method None _ _ _ taken in
     let own = sheet_room (part p x) (part p y) method p.left p.right p.from _ _ _ sheet-is-taken in
     let count = points x y method t.low t.same p f in
     let rising = f.rising in

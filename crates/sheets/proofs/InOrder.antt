@@ -1,4 +1,7 @@
 -- Sheets built one after the other from the left: what each adds to what is there, and that none of an accepted table is refused.
+use Rattle.std.specs.Result.{IsOk}
+use borrow.Author.Rules.{rules}
+use Rattle.std.specs.Prelude.{Err, None, Ok, Some}
 use Prim.Native.Nat.{ℕ, ◌+◌, ◌-◌, ◌*◌, ◌≤◌, ◌<◌, zero-le}
 use native.Mathlib.Omega.{arith}
 use native.Mathlib.Nat.{zero-add, le_refl}
@@ -15,28 +18,22 @@ use Rattle.numbers.specs.Sizes.{slot_count}
 use Rattle.numbers.specs.Words.{zero}
 use Rattle.numbers.proofs.Every.{and_right_false}
 use Rattle.numbers.proofs.Overlay.{overlay_none, overlay_same, length_overlay}
-use Rattle.numbers.proofs.Ways.{lt_or_le, never}
-use Rattle.refusal.specs.declared.Refusal.{Refusal}
-use Rattle.refusal.specs.declared.Verdict.TheVariants as verdict
+use Rattle.numbers.proofs.Ways.{lt_or_le}
 use Rattle.table.specs.Buffers.{Buffers, Outcome}
-use Rattle.table.specs.Table.{at, node_at, total_at}
+use Rattle.table.specs.Table.{at, node_at, total_at, End}
 use Rattle.table.specs.declared.method.ConvexMonotone.{ConvexMonotone}
-use Rattle.table.specs.declared.ends.End.{End}
-use Rattle.table.specs.declared.ends.End.TheVariants as end
 use Rattle.assembly.specs.Making.{after}
 use Rattle.assembly.specs.Sections.{tag_at, slot_at, tail_of}
 use Rattle.assembly.specs.declared.sections.Tail.{Tail}
-use Rattle.sheets.specs.Sheet.{none_given}
+use Rattle.sheets.specs.Sheet.{none_given, SheetBuilt}
 use Rattle.sheets.specs.Pieces.{Piece, whole, answer_of}
 use Rattle.sheets.specs.Cuts.{start_of, cut_fits, cuts_fit}
 use Rattle.sheets.specs.Steps.{left_end, Fair, Ready, piece_of_whole}
 use Rattle.sheets.specs.declared.sheet.SheetEnd.{SheetEnd}
-use Rattle.sheets.specs.declared.sheet.SheetBuilt.{SheetBuilt}
-use Rattle.sheets.specs.declared.sheet.SheetBuilt.TheVariants as sheet-built
 use Rattle.sheets.proofs.Cuts.{Stands, given_left, cut_fits_lem, next_start}
 use Rattle.sheets.proofs.SameCurve.{after_one, same_answer}
 use Rattle.sheets.proofs.Strokes.{Stretch, strokes, strokes_all, from_start}
-use Rattle.sheets.specs.SameCurve.{One, is_sheet}
+use Rattle.sheets.specs.SameCurve.{One}
 use Rattle.sheets.proofs.Together.{Table, piece_verdict, piece_outcome, piece_accepted, sound_part}
 
 -- one sheet of a table that is sound, on buffers with room for all of it
@@ -47,26 +44,26 @@ module _ (x y : List Float) (method : ConvexMonotone) (b : Buffers) (ready : Rea
   stands : Stands (length x - 1) p
   stands = record { rising = f.rising; inside = f.inside }
 
-  pub taken : piece_verdict x y method p b ≡ verdict.Accepted
+  pub taken : piece_verdict x y method p b ≡ Ok tt
   taken = piece_accepted x y method b t ready.room p stands g (sound_part x y method t ready.sound p stands)
 
   abbrev in_sheet : SheetEnd → SheetBuilt → SheetEnd
-  in_sheet d (sheet-built.Sheet s) = s
-  in_sheet d (sheet-built.Refused r) = d
+  in_sheet d (Ok s) = s
+  in_sheet d (Err r) = d
 
-  answers : (piece_outcome x y method p b).answer ≡ sheet-built.Sheet (answer_of p.right (total_at x y (whole method) p.to) (tail_of x y (whole method)))
+  answers : (piece_outcome x y method p b).answer ≡ Ok (answer_of p.right (total_at x y (whole method) p.to) (tail_of x y (whole method)))
   answers = same_answer x y method t p f b taken
 
   abbrev ends : SheetEnd → Buffers → Outcome SheetEnd
   ends s c = record { answer = s; buffers = c }
 
-  pub is_piece : (s : SheetEnd) (o : Outcome SheetBuilt) → o ≡ piece_outcome x y method p b → o.answer ≡ sheet-built.Sheet s → ends s o.buffers ≡ piece_of_whole x y method p b
+  pub is_piece : (s : SheetEnd) (o : Outcome SheetBuilt) → o ≡ piece_outcome x y method p b → o.answer ≡ Ok s → ends s o.buffers ≡ piece_of_whole x y method p b
   is_piece s o e h =
       ap (λ (q : SheetEnd). ends q o.buffers) (ap (in_sheet s) (sym h ∙ ap (λ (q : Outcome SheetBuilt). q.answer) e ∙ answers))
       ∙ ap (ends (piece_of_whole x y method p b).answer) (ap (λ (q : Outcome SheetBuilt). q.buffers) e ∙ after_one x y method t p f b taken)
 
-  pub not_refused : {A : Type 0} (r : Refusal) (o : Outcome SheetBuilt) → o ≡ piece_outcome x y method p b → o.answer ≡ sheet-built.Refused r → A
-  not_refused r o e h = never (refl {a = true}) (ap is_sheet (sym answers ∙ sym (ap (λ (q : Outcome SheetBuilt). q.answer) e) ∙ h))
+  pub is_answered : (o : Outcome SheetBuilt) → o ≡ piece_outcome x y method p b → IsOk o.answer
+  is_answered o e = rw (ap (λ (q : Outcome SheetBuilt). q.answer) e ∙ answers) (search rules)
 
 -- a stretch that starts within what is filled, or right behind it
 module _ {A : Type 0} (d : A) (g : ℕ → A) (w from count n : ℕ) (xs : List A) (u : from ≤ w) (v : w ≤ n) (e : from + count ≡ n) (l : n ≤ length xs) where
@@ -119,7 +116,7 @@ cut_here cuts n j before last cut e l f g h = rw (lt-ltb (start_of cuts j) (get_
 -- the left end of the next sheet: free at the table's start, and else the node that is there already
 module _ (x y : List Float) (method : ConvexMonotone) (nodes old : List Float) (from : ℕ) where
   abbrev LeftEnd : End → Type 0
-  LeftEnd l = ((from ≡ 0) × (l ≡ end.Free)) ⊎ ((0 < from) × (l ≡ end.Given (node_at x y (whole method) from)))
+  LeftEnd l = ((from ≡ 0) × (l ≡ None)) ⊎ ((0 < from) × (l ≡ Some (node_at x y (whole method) from)))
 
   pub left_is : nodes ≡ overlay 0 (reach from) (node_at x y (whole method)) old → from < length old → LeftEnd (left_end nodes from)
   left_is e l = by (eqb from 0) refl
@@ -131,14 +128,14 @@ module _ (x y : List Float) (method : ConvexMonotone) (nodes old : List Float) (
           let p : 0 < from = omega (arith, z) in
           inr (
             p,
-            ap (λ (t : Bool). cond t end.Free (end.Given (at nodes from))) h
-                ∙ ap (λ (ns : List Float). end.Given (at ns from)) (e ∙ ap (λ (w : ℕ). overlay 0 w (node_at x y (whole method)) old) (reach_inner from p))
-                ∙ ap end.Given (from_start (node_at x y (whole method)) nan old (from + 1) from (omega arith) (omega arith)),
+            ap (λ (t : Bool). cond t None (Some (at nodes from))) h
+                ∙ ap (λ (ns : List Float). Some (at ns from)) (e ∙ ap (λ (w : ℕ). overlay 0 w (node_at x y (whole method)) old) (reach_inner from p))
+                ∙ ap Some (from_start (node_at x y (whole method)) nan old (from + 1) from (omega arith) (omega arith)),
           )
 
 total_of : (r : End) (total : Float) (t : Tail) → (answer_of r total t).total ≡ total
-total_of end.Free total t = refl
-total_of (end.Given g) total t = refl
+total_of None total t = refl
+total_of (Some g) total t = refl
 
 abbrev pub ending : Tail → Buffers → Outcome Tail
 ending t b = record { answer = t; buffers = b }
@@ -188,7 +185,7 @@ module _ (x y : List Float) (method : ConvexMonotone) (cuts : List ℕ) (b₀ : 
     pub in_nodes : from < length b.nodes
     in_nodes = let i = p.ready.room.in_nodes in let below = p.below in let e = nodes_length in omega (arith, i, below, e)
 
-    pub left_here : ((from ≡ 0) × (left_end b.nodes from ≡ end.Free)) ⊎ ((0 < from) × (left_end b.nodes from ≡ end.Given (node_at x y (whole method) from)))
+    pub left_here : ((from ≡ 0) × (left_end b.nodes from ≡ None)) ⊎ ((0 < from) × (left_end b.nodes from ≡ Some (node_at x y (whole method) from)))
     left_here = left_is x y method b.nodes b₀.nodes from p.nodes_so_far (let e = nodes_length in let i = in_nodes in omega (arith, e, i))
 
     module _ (to : ℕ) (h : j < length cuts) (e : to ≡ get_or cuts j 0) where
@@ -198,14 +195,14 @@ module _ (x y : List Float) (method : ConvexMonotone) (cuts : List ℕ) (b₀ : 
       pub inside : to < length x - 1
       inside = let c = cut_fits_lem cuts (length x) p.fits j h in let u = c.1 in omega (arith, u, e)
 
-      pub fair_next : (l : End) (g : Float) → l ≡ left_end b.nodes from → g ≡ node_at x y (whole method) to → Fair x y method (record { from = from; to = to; left = l; right = end.Given g; start = total })
+      pub fair_next : (l : End) (g : Float) → l ≡ left_end b.nodes from → g ≡ node_at x y (whole method) to → Fair x y method (record { from = from; to = to; left = l; right = Some g; start = total })
       fair_next l g el eg =
           let i = inside in
           record {
             rising = above;
             inside = omega (arith, i);
             left_end = rw el left_here;
-            right_end = inr (i, ap end.Given eg);
+            right_end = inr (i, ap Some eg);
             total = p.sum;
           }
 
@@ -237,7 +234,7 @@ module _ (x y : List Float) (method : ConvexMonotone) (cuts : List ℕ) (b₀ : 
 
     -- the last sheet, which ends at the last knot
     module _ (h : 0 < j) (last : ℕ) (e : last ≡ length x - 1) where
-      pub fair_last : (l : End) → l ≡ left_end b.nodes from → Fair x y method (record { from = from; to = last; left = l; right = end.Free; start = total })
+      pub fair_last : (l : End) → l ≡ left_end b.nodes from → Fair x y method (record { from = from; to = last; left = l; right = None; start = total })
       fair_last l el =
           let below = p.below in
           record {
@@ -248,15 +245,15 @@ module _ (x y : List Float) (method : ConvexMonotone) (cuts : List ℕ) (b₀ : 
             total = p.sum;
           }
 
-      pub given_last : (l : End) → l ≡ left_end b.nodes from → none_given l end.Free ≡ false
+      pub given_last : (l : End) → l ≡ left_end b.nodes from → none_given l None ≡ false
       given_last l el =
           let m = p.moved h in
           ⊎_elim
-          (λ (z : (from ≡ 0) × (left_end b.nodes from ≡ end.Free)). absurd (let w = z.0 in omega (arith, w, m)))
-          (λ (z : (0 < from) × (left_end b.nodes from ≡ end.Given (node_at x y (whole method) from))). given_left end.Free l _ (el ∙ z.1))
+          (λ (z : (from ≡ 0) × (left_end b.nodes from ≡ None)). absurd (let w = z.0 in omega (arith, w, m)))
+          (λ (z : (0 < from) × (left_end b.nodes from ≡ Some (node_at x y (whole method) from))). given_left None l _ (el ∙ z.1))
           left_here
 
-      pub all_written : (l : End) (o : Outcome SheetEnd) → o ≡ piece_of_whole x y method (record { from = from; to = last; left = l; right = end.Free; start = total }) b →
+      pub all_written : (l : End) (o : Outcome SheetEnd) → o ≡ piece_of_whole x y method (record { from = from; to = last; left = l; right = None; start = total }) b →
           ending o.answer.tail o.buffers ≡ ending (tail_of x y (whole method)) (after 0 x y (whole method) b₀)
       all_written l o q =
           let below = p.below in

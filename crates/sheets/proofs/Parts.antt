@@ -1,4 +1,5 @@
 -- Steps of `sheet`: the order of its refusals, and a part of a buffer that is written by itself.
+use Rattle.std.specs.Prelude.{Err, Ok}
 use Prim.Native.Nat.{ℕ, ◌-◌, ◌*◌, ◌/◌, ◌≤◌, ◌<◌}
 use native.Mathlib.Omega.{arith}
 use native.Mathlib.Nat.{le_refl, add-zero}
@@ -16,44 +17,40 @@ use Rattle.numbers.specs.Sizes.{slot_count}
 use Rattle.numbers.proofs.Overlay.{drop_overlay, take_overlay}
 use Rattle.numbers.proofs.Every.{and_split}
 use Rattle.numbers.proofs.Ways.{never, or_none}
-use Rattle.refusal.specs.Refusal.{first, and_then}
+use Rattle.refusal.specs.Refusal.{first, and_then, Verdict}
 use Rattle.refusal.specs.declared.Refusal.TheVariants.{NoGivenNode, TooManyPoints, BufferTooShort, AverageBelowZero}
 use Rattle.refusal.specs.declared.Refusal.{Refusal}
-use Rattle.refusal.specs.declared.Verdict.{Verdict}
-use Rattle.refusal.specs.declared.Verdict.TheVariants as verdict
 use Rattle.refusal.proofs.First.{next, passed, stops, goes_on, both_accept, first_append}
 use Rattle.table.specs.Buffers.{Buffers, Outcome, buffers}
 use Rattle.table.specs.Check.{table_tests, average_below, sign_test, no_room, room_tests}
 use Rattle.table.specs.Sound.{Sound, Room}
-use Rattle.table.specs.Table.{node_at}
+use Rattle.table.specs.Table.{node_at, End}
 use Rattle.table.specs.declared.method.ConvexMonotone.{ConvexMonotone}
-use Rattle.table.specs.declared.ends.End.{End}
 use Rattle.table.specs.declared.ends.Frame.{Frame}
 use Rattle.table.proofs.Sound.{sound, is_sound, room, has_room}
-use Rattle.assembly.specs.Making.{size_tests, size_verdict, made_from}
+use Rattle.assembly.specs.Making.{size_tests, size_verdict, made_from, Made}
 use Rattle.assembly.specs.Sections.{tag_at, slot_at}
-use Rattle.assembly.specs.declared.making.Made.{Made}
 use Rattle.assembly.proofs.Sizes.{only_room}
 use Rattle.sheets.specs.Sheet.{none_given, numbers_tests, sheet_tests}
 use Rattle.sheets.specs.Steps.{reaches, part_verdict}
 
 -- 16 comes first, and 29 after the others
 module _ (x y : List Float) (method : ConvexMonotone) (l r : End) where
-  pub no_node : none_given l r ≡ true → verdict.Refused NoGivenNode ≡ first (numbers_tests x y method l r)
+  pub no_node : none_given l r ≡ true → Err NoGivenNode ≡ first (numbers_tests x y method l r)
   no_node h = rw h
 
   -- a sheet with a node, refused in 1 to 7, refused for a sign, and accepted
   module _ (v : Verdict) (g : none_given l r ≡ false) (e : v ≡ first (table_tests x y method)) where
-    pub stopped : (q : Refusal) → v ≡ verdict.Refused q → v ≡ first (numbers_tests x y method l r)
+    pub stopped : (q : Refusal) → v ≡ Err q → v ≡ first (numbers_tests x y method l r)
     stopped q f = rw g (stops v q (table_tests x y method) (sign_test y method ∷ []) e f)
 
-    pub below : v ≡ verdict.Accepted → average_below y method ≡ true → verdict.Refused AverageBelowZero ≡ first (numbers_tests x y method l r)
+    pub below : v ≡ Ok tt → average_below y method ≡ true → Err AverageBelowZero ≡ first (numbers_tests x y method l r)
     below f h = rw g (goes_on v _ (table_tests x y method) (sign_test y method ∷ []) e f (rw h))
 
-    pub from_zero_lem : v ≡ verdict.Accepted → average_below y method ≡ false → verdict.Accepted ≡ first (numbers_tests x y method l r)
+    pub from_zero_lem : v ≡ Ok tt → average_below y method ≡ false → (Ok tt) ≡ first (numbers_tests x y method l r)
     from_zero_lem f h = rw g (goes_on v _ (table_tests x y method) (sign_test y method ∷ []) e f (rw h))
 
-  pub numbers_sound : first (numbers_tests x y method l r) ≡ verdict.Accepted → Sound x y method
+  pub numbers_sound : first (numbers_tests x y method l r) ≡ Ok tt → Sound x y method
   numbers_sound h =
       let (_, others) = next (none_given l r) NoGivenNode (first (table_tests x y method ++ (sign_test y method ∷ []))) h in
       let (numbers, last) = both_accept _ _ (sym (first_append (table_tests x y method) (sign_test y method ∷ [])) ∙ others) in
@@ -62,37 +59,37 @@ module _ (x y : List Float) (method : ConvexMonotone) (l r : End) where
 
   -- past 16, 1 to 7 and 29 only sizes are left to ask about
   module _ (place nodes tags slots : ℕ) where
-    pub settled : first (numbers_tests x y method l r) ≡ verdict.Accepted →
+    pub settled : first (numbers_tests x y method l r) ≡ Ok tt →
         first (sheet_tests x y method l r place nodes tags slots) ≡ first (room_tests (length x) (nodes - place) (tags - place) (slots - slot_count * place))
     settled h =
         first_append (numbers_tests x y method l r) (room_tests (length x) (nodes - place) (tags - place) (slots - slot_count * place))
         ∙ ap (λ (v : Verdict). and_then v (first (room_tests (length x) (nodes - place) (tags - place) (slots - slot_count * place)))) h
 
-    pub sized : first (numbers_tests x y method l r) ≡ verdict.Accepted →
+    pub sized : first (numbers_tests x y method l r) ≡ Ok tt →
         first (sheet_tests x y method l r place nodes tags slots) ≡ first (size_tests (length x) (length y) (nodes - place) (tags - place) (slots - slot_count * place))
     sized h =
         let s = numbers_sound h in
         settled h ∙ sym (only_room (length x) (length y) (nodes - place) (tags - place) (slots - slot_count * place) (ap not (eq-eqb (length x) (length y) s.same)) (le-ltb (length x) 2 s.low))
 
-    both_passed : first (sheet_tests x y method l r place nodes tags slots) ≡ verdict.Accepted →
-        (first (numbers_tests x y method l r) ≡ verdict.Accepted) × (first (room_tests (length x) (nodes - place) (tags - place) (slots - slot_count * place)) ≡ verdict.Accepted)
+    both_passed : first (sheet_tests x y method l r place nodes tags slots) ≡ Ok tt →
+        (first (numbers_tests x y method l r) ≡ Ok tt) × (first (room_tests (length x) (nodes - place) (tags - place) (slots - slot_count * place)) ≡ Ok tt)
     both_passed h = both_accept _ _ (sym (first_append (numbers_tests x y method l r) (room_tests (length x) (nodes - place) (tags - place) (slots - slot_count * place))) ∙ h)
 
     -- an accepted sheet is sound and has room; and one that is sound, has a given node and has room is accepted
-    pub sheet_sound : first (sheet_tests x y method l r place nodes tags slots) ≡ verdict.Accepted → Sound x y method
+    pub sheet_sound : first (sheet_tests x y method l r place nodes tags slots) ≡ Ok tt → Sound x y method
     sheet_sound h = numbers_sound (both_passed h).0
 
-    pub sheet_room : first (sheet_tests x y method l r place nodes tags slots) ≡ verdict.Accepted → Room (length x) (nodes - place) (tags - place) (slots - slot_count * place)
+    pub sheet_room : first (sheet_tests x y method l r place nodes tags slots) ≡ Ok tt → Room (length x) (nodes - place) (tags - place) (slots - slot_count * place)
     sheet_room h = room (length x) (nodes - place) (tags - place) (slots - slot_count * place) (both_passed h).1
 
     pub sheet_accepts : none_given l r ≡ false → Sound x y method → Room (length x) (nodes - place) (tags - place) (slots - slot_count * place) →
-        first (sheet_tests x y method l r place nodes tags slots) ≡ verdict.Accepted
+        first (sheet_tests x y method l r place nodes tags slots) ≡ Ok tt
     sheet_accepts g s room = settled (rw (g, first_append (table_tests x y method) (sign_test y method ∷ []), is_sound x y method s, s.signs)) ∙ has_room (length x) (nodes - place) (tags - place) (slots - slot_count * place) room
 
-pub too_many : (n nodes tags slots : ℕ) → 4096 < n → first (room_tests n nodes tags slots) ≡ verdict.Refused TooManyPoints
+pub too_many : (n nodes tags slots : ℕ) → 4096 < n → first (room_tests n nodes tags slots) ≡ Err TooManyPoints
 too_many n nodes tags slots h = rw (lt-ltb 4096 n h)
 
-no_room_lem : (n nodes tags slots : ℕ) → n ≤ 4096 → no_room n nodes tags slots ≡ true → first (room_tests n nodes tags slots) ≡ verdict.Refused BufferTooShort
+no_room_lem : (n nodes tags slots : ℕ) → n ≤ 4096 → no_room n nodes tags slots ≡ true → first (room_tests n nodes tags slots) ≡ Err BufferTooShort
 no_room_lem n nodes tags slots h e = rw (le-ltb 4096 n h, e)
 
 -- a place within the buffers
@@ -111,7 +108,7 @@ module _ (place nodes tags slots : ℕ) where
 
   -- a place outside leaves no room for any sheet
   pub outside : (n : ℕ) → 2 ≤ n → n ≤ 4096 → reaches place nodes tags slots ≡ false →
-      first (room_tests n (nodes - place) (tags - place) (slots - slot_count * place)) ≡ verdict.Refused BufferTooShort
+      first (room_tests n (nodes - place) (tags - place) (slots - slot_count * place)) ≡ Err BufferTooShort
   outside n low high h = no_room_lem n (nodes - place) (tags - place) (slots - slot_count * place) high (by (no_room n (nodes - place) (tags - place) (slots - slot_count * place)) refl)
     where
       reached : no_room n (nodes - place) (tags - place) (slots - slot_count * place) ≡ false → reaches place nodes tags slots ≡ true
@@ -161,13 +158,13 @@ module _ (place : ℕ) (x y : List Float) (frame : Frame) (b : Buffers) (w : Wit
   back o = record { answer = o.answer; buffers = back_in o.buffers }
 
   by_verdict : (v : Verdict) → back (made_from 0 x y frame v parts_of) ≡ made_from place x y frame v b
-  by_verdict verdict.Accepted =
+  by_verdict (Ok tt) =
       rw (
         put_back place b.nodes w.in_nodes (length x) (node_at x y frame),
         put_back place b.tags w.in_tags (length x - 1) (tag_at x y frame),
         put_back (slot_count * place) b.slots w.in_slots (slot_count * (length x - 1)) (slot_at x y frame),
       )
-  by_verdict (verdict.Refused r) =
+  by_verdict (Err r) =
       rw (
         put_same place (length b.nodes - place) b.nodes,
         put_same place (length b.tags - place) b.tags,

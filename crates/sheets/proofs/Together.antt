@@ -1,4 +1,7 @@
 -- The sheets of a table are accepted together exactly when the whole is: what is asked of a table's numbers is asked at every place, and every place is in a sheet.
+use Rattle.curve.specs.Curve.{Built}
+use Rattle.refusal.specs.Refusal.{Verdict}
+use Rattle.std.specs.Prelude.{Err, None, Ok}
 use Prim.Native.Nat.{ℕ, ◌+◌, ◌-◌, ◌*◌, ◌≤◌, ◌<◌}
 use native.Mathlib.Omega.{arith}
 use mathlib.Core.Bool.{Bool, true, false, not, ◌&&◌}
@@ -13,8 +16,6 @@ use Rattle.numbers.proofs.Every.{all_at, all_every, and_split}
 use Rattle.numbers.proofs.Overlay.{length_overlay}
 use Rattle.numbers.proofs.Ways.{never, lt_or_le}
 use Rattle.refusal.specs.declared.Refusal.{Refusal}
-use Rattle.refusal.specs.declared.Verdict.{Verdict}
-use Rattle.refusal.specs.declared.Verdict.TheVariants as verdict
 use Rattle.table.specs.Buffers.{Buffers, Outcome, judged}
 use Rattle.table.specs.Check.{all_finite, rising, from_zero}
 use Rattle.table.specs.Method.{safely}
@@ -22,18 +23,13 @@ use Rattle.table.specs.Sound.{Sound}
 use Rattle.table.specs.Table.{at, node_at}
 use Rattle.table.specs.declared.method.ConvexMonotone.{ConvexMonotone}
 use Rattle.table.specs.declared.ends.Frame.{Frame}
-use Rattle.table.specs.declared.ends.Seam.TheVariants as seam
 use Rattle.assembly.specs.Making.{after}
 use Rattle.assembly.specs.Sections.{tag_at, slot_at, tail_of}
 use Rattle.curve.specs.Build.{whole_frame, curve_of, build_verdict, build_outcome}
-use Rattle.curve.specs.declared.curve.Built.{Built}
-use Rattle.curve.specs.declared.curve.Built.TheVariants as built
 use Rattle.curve.proofs.Accepted.{accepted_sound, accepts}
-use Rattle.sheets.specs.Sheet.{none_given, sheet_frame, end_of, sheet_verdict, sheet_outcome}
+use Rattle.sheets.specs.Sheet.{none_given, sheet_frame, end_of, sheet_verdict, sheet_outcome, SheetBuilt}
 use Rattle.sheets.specs.Pieces.{Piece, part}
 use Rattle.sheets.specs.SameCurve.{RoomFor, One, is_curve, is_sheet, all_sheets}
-use Rattle.sheets.specs.declared.sheet.SheetBuilt.{SheetBuilt}
-use Rattle.sheets.specs.declared.sheet.SheetBuilt.TheVariants as sheet-built
 use Rattle.sheets.proofs.Alike.{part_length, part_at}
 use Rattle.sheets.proofs.Cuts.{Stands, Covers}
 use Rattle.sheets.proofs.Parts.{sheet_sound, sheet_accepts}
@@ -65,48 +61,48 @@ module _ (x y : List Float) (method : ConvexMonotone) where
 
   -- what the whole build decides, and what it answers and leaves, with no seam and no held last period
   abbrev pub whole_verdict : Buffers → Verdict
-  whole_verdict b = build_verdict x y method seam.Absent b
+  whole_verdict b = build_verdict x y method None b
 
   abbrev pub whole_outcome : Buffers → Outcome Built
-  whole_outcome b = build_outcome x y method false seam.Absent b
+  whole_outcome b = build_outcome x y method false None b
 
   -- a sheet, and the whole, are answered exactly when they are accepted
-  pub sheet_taken : (p : Piece) (b : Buffers) → is_sheet (piece_outcome p b).answer ≡ true → piece_verdict p b ≡ verdict.Accepted
+  pub sheet_taken : (p : Piece) (b : Buffers) → is_sheet (piece_outcome p b).answer ≡ true → piece_verdict p b ≡ Ok tt
   sheet_taken p b h = by (piece_verdict p b) h
     where
       frame : Frame
       frame = sheet_frame method p.left p.right p.start
 
-      by : (v : Verdict) → is_sheet (judged v sheet-built.Refused b (record { answer = sheet-built.Sheet (end_of p.right (tail_of (part p x) (part p y) frame)); buffers = after p.from (part p x) (part p y) frame b })).answer ≡ true → v ≡ verdict.Accepted
-      by verdict.Accepted h = refl
-      by (verdict.Refused r) h = never h refl
+      by : (v : Verdict) → is_sheet (judged v Err b (record { answer = Ok (end_of p.right (tail_of (part p x) (part p y) frame)); buffers = after p.from (part p x) (part p y) frame b })).answer ≡ true → v ≡ Ok tt
+      by (Ok tt) h = refl
+      by (Err r) h = never h refl
 
-  pub whole_taken : (b : Buffers) → is_curve (whole_outcome b).answer ≡ true → whole_verdict b ≡ verdict.Accepted
+  pub whole_taken : (b : Buffers) → is_curve (whole_outcome b).answer ≡ true → whole_verdict b ≡ Ok tt
   whole_taken b h = by (whole_verdict b) h
     where
       frame : Frame
-      frame = whole_frame (length x) method false seam.Absent
+      frame = whole_frame (length x) method false None
 
-      by : (v : Verdict) → is_curve (judged v built.Refused b (record { answer = curve_of x y frame false; buffers = after 0 x y frame b })).answer ≡ true → v ≡ verdict.Accepted
-      by verdict.Accepted h = refl
-      by (verdict.Refused r) h = never h refl
+      by : (v : Verdict) → is_curve (judged v Err b (record { answer = curve_of x y frame false; buffers = after 0 x y frame b })).answer ≡ true → v ≡ Ok tt
+      by (Ok tt) h = refl
+      by (Err r) h = never h refl
 
 -- the whole, and a sheet, are accepted exactly when they are sound
 module _ (x y : List Float) (method : ConvexMonotone) (b : Buffers) (table : Table x y) (room : RoomFor x b) where
-  pub whole_sound : whole_verdict x y method b ≡ verdict.Accepted → Sound x y method
-  whole_sound h = accepted_sound x y method seam.Absent (length b.nodes) (length b.tags) (length b.slots) h
+  pub whole_sound : whole_verdict x y method b ≡ Ok tt → Sound x y method
+  whole_sound h = accepted_sound x y method None (length b.nodes) (length b.tags) (length b.slots) h
 
-  pub whole_accepted : Sound x y method → whole_verdict x y method b ≡ verdict.Accepted
-  whole_accepted s = accepts x y method seam.Absent (length b.nodes) (length b.tags) (length b.slots) s refl room
+  pub whole_accepted : Sound x y method → whole_verdict x y method b ≡ Ok tt
+  whole_accepted s = accepts x y method None (length b.nodes) (length b.tags) (length b.slots) s refl room
 
   module _ (p : Piece) (s : Stands (length x - 1) p) (g : none_given p.left p.right ≡ false) where
     within : p.to < length x
     within = let i = s.inside in let n = table.low in omega (arith, i, n)
 
-    pub piece_sound : piece_verdict x y method p b ≡ verdict.Accepted → Sound (part p x) (part p y) method
+    pub piece_sound : piece_verdict x y method p b ≡ Ok tt → Sound (part p x) (part p y) method
     piece_sound h = sheet_sound (part p x) (part p y) method p.left p.right p.from (length b.nodes) (length b.tags) (length b.slots) h
 
-    pub piece_accepted : Sound (part p x) (part p y) method → piece_verdict x y method p b ≡ verdict.Accepted
+    pub piece_accepted : Sound (part p x) (part p y) method → piece_verdict x y method p b ≡ Ok tt
     piece_accepted q =
         let n = part_length p x within in
         let r = s.rising in
@@ -262,9 +258,9 @@ room_after x y method p b r = by (piece_verdict x y method p b)
     frame : Frame
     frame = sheet_frame method p.left p.right p.start
 
-    by : (v : Verdict) → RoomFor x (judged v sheet-built.Refused b (record { answer = sheet-built.Sheet (end_of p.right (tail_of (part p x) (part p y) frame)); buffers = after p.from (part p x) (part p y) frame b })).buffers
-    by (verdict.Refused q) = r
-    by verdict.Accepted =
+    by : (v : Verdict) → RoomFor x (judged v Err b (record { answer = Ok (end_of p.right (tail_of (part p x) (part p y) frame)); buffers = after p.from (part p x) (part p y) frame b })).buffers
+    by (Err q) = r
+    by (Ok tt) =
         rw (
           length_overlay p.from (length (part p x)) (node_at (part p x) (part p y) frame) b.nodes,
           length_overlay p.from (length (part p x) - 1) (tag_at (part p x) (part p y) frame) b.tags,
@@ -274,14 +270,14 @@ room_after x y method p b r = by (piece_verdict x y method p b)
 
 -- one after the other, each on what those before it left
 module _ (x y : List Float) (method : ConvexMonotone) (table : Table x y) where
-  all_taken : (ps : List Piece) (b : Buffers) → RoomFor x b → ((p : Piece) → One p ps → (c : Buffers) → RoomFor x c → piece_verdict x y method p c ≡ verdict.Accepted) →
+  all_taken : (ps : List Piece) (b : Buffers) → RoomFor x b → ((p : Piece) → One p ps → (c : Buffers) → RoomFor x c → piece_verdict x y method p c ≡ Ok tt) →
       all_sheets (answers_of x y method ps b) ≡ true
   unfolding answers_of all_sheets
   all_taken [] b r h = refl
   all_taken (p ∷ ps) b r h = rw (h p (inl refl) b r, all_taken ps (after_piece x y method p b) (room_after x y method p b r) (λ q o. h q (inr o)))
 
   each_taken : (ps : List Piece) (b : Buffers) → RoomFor x b → all_sheets (answers_of x y method ps b) ≡ true → (p : Piece) → One p ps →
-      (c : Buffers) × RoomFor x c × (piece_verdict x y method p c ≡ verdict.Accepted)
+      (c : Buffers) × RoomFor x c × (piece_verdict x y method p c ≡ Ok tt)
   unfolding answers_of all_sheets
   each_taken [] b r h p o = absurd o
   each_taken (q ∷ ps) b r h p (inl e) =
@@ -293,7 +289,7 @@ module _ (x y : List Float) (method : ConvexMonotone) (table : Table x y) where
 
   module _ (ps : List Piece) (all : Covers (length x - 1) ps) where
     -- no sheet of a sound table is refused
-    pub taken : Sound x y method → (p : Piece) → One p ps → (c : Buffers) → RoomFor x c → piece_verdict x y method p c ≡ verdict.Accepted
+    pub taken : Sound x y method → (p : Piece) → One p ps → (c : Buffers) → RoomFor x c → piece_verdict x y method p c ≡ Ok tt
     taken s p o c r = piece_accepted x y method c table r p (all.stands p o) (all.given p o) (sound_part x y method table s p (all.stands p o))
 
     -- the sheets are all accepted exactly when the whole is, whatever nodes and totals they are given
@@ -311,16 +307,16 @@ module _ (x y : List Float) (method : ConvexMonotone) (table : Table x y) where
             let (c, s, e) = each_taken ps b r h p o in
             piece_sound x y method c table s p (all.stands p o) (all.given p o) e)
 
-        is_curve_lem : whole_verdict x y method b ≡ verdict.Accepted → is_curve (whole_outcome x y method b).answer ≡ true
+        is_curve_lem : whole_verdict x y method b ≡ Ok tt → is_curve (whole_outcome x y method b).answer ≡ true
         is_curve_lem e = rw e
 
-        no_curve : (q : Refusal) → whole_verdict x y method b ≡ verdict.Refused q → is_curve (whole_outcome x y method b).answer ≡ false
+        no_curve : (q : Refusal) → whole_verdict x y method b ≡ Err q → is_curve (whole_outcome x y method b).answer ≡ false
         no_curve q e = rw e
 
-        not_all : (q : Refusal) → whole_verdict x y method b ≡ verdict.Refused q → (v : Bool) → sheets ≡ v → sheets ≡ false
+        not_all : (q : Refusal) → whole_verdict x y method b ≡ Err q → (v : Bool) → sheets ≡ v → sheets ≡ false
         not_all q e false h = h
         not_all q e true h = never (is_curve_lem (whole_accepted x y method b table r (sound_if h))) (no_curve q e)
 
         by : (v : Verdict) → whole_verdict x y method b ≡ v → sheets ≡ is_curve (whole_outcome x y method b).answer
-        by verdict.Accepted e = all_taken ps b r (taken (whole_sound x y method b table r e)) ∙ sym (is_curve_lem e)
-        by (verdict.Refused q) e = not_all q e sheets refl ∙ sym (no_curve q e)
+        by (Ok tt) e = all_taken ps b r (taken (whole_sound x y method b table r e)) ∙ sym (is_curve_lem e)
+        by (Err q) e = not_all q e sheets refl ∙ sym (no_curve q e)

@@ -4,7 +4,7 @@ use Rattle.numbers.specs.OneOutcome.{OneAnswer, OneOutcome}
 use Rattle.table.specs.Buffers.{outcome}
 use Rattle.sheets.proofs.pieces.cuts_fit.Reads as cuts_fit
 use Rattle.sheets.proofs.pieces.build_in_sheets.Reads as build-in-sheets
-use Rattle.sheets.proofs.sheet.SheetBuilt.in_numbers.Reads as sheet-built-in-numbers
+use Rattle.sheets.proofs.sheet.SheetInNumbersFromResultSheetEndRefusal.from.Reads as sheet-built-in-numbers
 use Rattle.sheets.proofs.sheet.sheet_verdict.Reads as sheet-verdict
 use Rattle.sheets.proofs.sheet.sheet.Reads as sheet
 
@@ -14,8 +14,8 @@ cuts_fit_unique κ a r₁ r₂ s t p q = p ∙ sym q
 pub build_in_sheets_unique : OneOutcome build-in-sheets.Post (λ κ r s. let (_, (_, (_, (_, (nodes, (tags, (slots, _))))))) = s in outcome r nodes.now tags.now slots.now)
 build_in_sheets_unique κ a r₁ r₂ s t p q = p ∙ sym q
 
-pub sheet_built_in_numbers_unique : OneAnswer sheet-built-in-numbers.Post
-sheet_built_in_numbers_unique κ a r₁ r₂ s t p q = p ∙ sym q
+pub sheet_in_numbers_from_unique : OneAnswer sheet-built-in-numbers.Post
+sheet_in_numbers_from_unique κ a r₁ r₂ s t p q = p ∙ sym q
 
 pub sheet_verdict_unique : OneAnswer sheet-verdict.Post
 sheet_verdict_unique κ a r₁ r₂ s t p q = p ∙ sym q

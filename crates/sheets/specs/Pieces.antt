@@ -1,9 +1,8 @@
 -- 01, Sheets. A sheet of a table, its part of the table, and what it answers of the whole.
-use Rattle.std.specs.Prelude.{ℕ, ◌+◌, ◌-◌, List, Float, take, drop}
+use Rattle.table.specs.Table.{End}
+use Rattle.std.specs.Prelude.{ℕ, ◌+◌, ◌-◌, List, Float, take, drop, None, Some}
 use Rattle.numbers.specs.Words.{zero}
 use Rattle.table.specs.declared.method.ConvexMonotone.{ConvexMonotone}
-use Rattle.table.specs.declared.ends.End.{End}
-use Rattle.table.specs.declared.ends.End.TheVariants as end
 use Rattle.table.specs.declared.ends.Frame.{Frame}
 use Rattle.assembly.specs.declared.sections.Tail.{Tail}
 use Rattle.sheets.specs.Sheet.{sheet_frame, no_tail}
@@ -23,9 +22,9 @@ part p xs = take (p.to + 1 - p.from) (drop p.from xs)
 
 -- the whole's frame: both ends free, the total from 0
 abbrev pub whole : ConvexMonotone → Frame
-whole method = sheet_frame method end.Free end.Free zero
+whole method = sheet_frame method None None zero
 
 -- what a sheet answers of a whole whose tail is t: the total after its last period, and the tail if it is the last sheet
 abbrev pub answer_of : End → Float → Tail → SheetEnd
-answer_of end.Free total t = record { total = total; tail = t }
-answer_of (end.Given g) total t = record { total = total; tail = no_tail }
+answer_of None total t = record { total = total; tail = t }
+answer_of (Some g) total t = record { total = total; tail = no_tail }

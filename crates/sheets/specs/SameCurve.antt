@@ -1,23 +1,17 @@
 -- Demand 3, over the contracts of `build` and `sheet` as a caller sees them: what they allow to be answered and left. `proofs/Demand.antt` proves both statements
 -- of the two functions.
-use Rattle.std.specs.Prelude.{ℕ, ◌+◌, ◌-◌, ◌*◌, ◌≤◌, ◌<◌, Bool, true, false, cond, ◌&&◌, List, [], ◌∷◌, map, ◌⊎◌, ◌≡◌, eqb, Float, length, get_or}
+use Rattle.curve.specs.Curve.{Built}
+use Rattle.std.specs.Prelude.{ℕ, ◌+◌, ◌-◌, ◌*◌, ◌≤◌, ◌<◌, Bool, true, false, cond, ◌&&◌, List, [], ◌∷◌, map, ◌⊎◌, ◌≡◌, eqb, Float, length, get_or, Err, None, Ok, Option, Some}
 use Rattle.numbers.specs.Sizes.{slot_count}
 use Rattle.table.specs.Buffers.{Buffers, Outcome}
 use Rattle.table.specs.Sound.{Room}
-use Rattle.table.specs.Table.{node_at, total_at}
+use Rattle.table.specs.Table.{node_at, total_at, End}
 use Rattle.table.specs.declared.method.ConvexMonotone.{ConvexMonotone}
-use Rattle.table.specs.declared.ends.End.{End}
-use Rattle.table.specs.declared.ends.End.TheVariants as end
 use Rattle.table.specs.declared.ends.Seam.{Seam}
-use Rattle.table.specs.declared.ends.Seam.TheVariants as seam
 use Rattle.assembly.specs.declared.sections.Tail.{Tail}
-use Rattle.curve.specs.declared.curve.Built.{Built}
-use Rattle.curve.specs.declared.curve.Built.TheVariants as built
 use Rattle.sheets.specs.Cuts.{start_of, finish_of, cuts_fit}
 use Rattle.sheets.specs.Pieces.{Piece, part, whole, answer_of}
-use Rattle.sheets.specs.Sheet.{no_tail}
-use Rattle.sheets.specs.declared.sheet.SheetBuilt.{SheetBuilt}
-use Rattle.sheets.specs.declared.sheet.SheetBuilt.TheVariants as sheet-built
+use Rattle.sheets.specs.Sheet.{no_tail, SheetBuilt}
 
 -- equally many knots and averages, 3 to 4,096, and one cut or more: inner knots, each above the one before
 pub record CutTable (x y : List Float) (cuts : List ℕ) : Type 0 where
@@ -43,8 +37,8 @@ abbrev pub piece_of : ℕ → List ℕ → Call → Piece
 piece_of n cuts q = record {
   from = start_of cuts q.sheet;
   to = finish_of n cuts q.sheet;
-  left = cond (eqb q.sheet 0) end.Free (end.Given q.left);
-  right = cond (eqb q.sheet (length cuts)) end.Free (end.Given q.right);
+  left = cond (eqb q.sheet 0) None (Some q.left);
+  right = cond (eqb q.sheet (length cuts)) None (Some q.right);
   start = q.start;
 }
 
@@ -59,16 +53,16 @@ pub record Complete (cuts : List ℕ) (calls : List Call) : Type 0 where
   pub every : (j : ℕ) → j ≤ length cuts → (q : Call) × One q calls × (q.sheet ≡ j)
 
 abbrev pub is_curve : Built → Bool
-is_curve (built.Curve c) = true
-is_curve (built.Refused r) = false
+is_curve (Ok c) = true
+is_curve (Err r) = false
 
 abbrev pub tail_in : Built → Tail
-tail_in (built.Curve c) = c.tail
-tail_in (built.Refused r) = no_tail
+tail_in (Ok c) = c.tail
+tail_in (Err r) = no_tail
 
 abbrev pub is_sheet : SheetBuilt → Bool
-is_sheet (sheet-built.Sheet s) = true
-is_sheet (sheet-built.Refused r) = false
+is_sheet (Ok s) = true
+is_sheet (Err r) = false
 
 unfoldable pub all_sheets : List SheetBuilt → Bool
 all_sheets [] = true
@@ -86,7 +80,7 @@ module _ (x y : List Float) (method : ConvexMonotone) (cuts : List ℕ) where
 
   -- what a sheet answers of a whole with this tail: the whole's total at its end, and the tail if it is the last sheet
   abbrev pub answer_to : Tail → Call → SheetBuilt
-  answer_to t q = sheet-built.Sheet (answer_of (piece_of (length x) cuts q).right (total_at x y (whole method) (finish_of (length x) cuts q.sheet)) t)
+  answer_to t q = Ok (answer_of (piece_of (length x) cuts q).right (total_at x y (whole method) (finish_of (length x) cuts q.sheet)) t)
 
 -- of a buffer: the entries from a place on are the whole's, so many of them, and all others are the old ones
 pub record TakenFrom {A : Type 0} (place count : ℕ) (whole old new : List A) : Type 0 where
@@ -96,7 +90,7 @@ pub record TakenFrom {A : Type 0} (place count : ℕ) (whole old new : List A) :
 
 -- what a contract allows: this outcome of a call with these arguments
 abbrev pub BuildAllows : Type 1
-BuildAllows = List Float → List Float → ConvexMonotone → Bool → Seam → Buffers → Outcome Built → Type 0
+BuildAllows = List Float → List Float → ConvexMonotone → Bool → Option Seam → Buffers → Outcome Built → Type 0
 
 abbrev pub SheetAllows : Type 1
 SheetAllows = List Float → List Float → ConvexMonotone → End → End → Float → ℕ → Buffers → Outcome SheetBuilt → Type 0
@@ -120,7 +114,7 @@ module _ (build : BuildAllows) (sheet : SheetAllows) where
   abbrev pub SameCurve : Type 0
   SameCurve =
       (x y : List Float) (method : ConvexMonotone) (cuts : List ℕ) → CutTable x y cuts → (b : Buffers) → RoomFor x b →
-      (w : Outcome Built) → build x y method false seam.Absent b w →
+      (w : Outcome Built) → build x y method false None b w →
       (calls : List Call) → Complete cuts calls → (answers : List SheetBuilt) (c : Buffers) → Calls x y method cuts calls b answers c →
       (all_sheets answers ≡ is_curve w.answer)
       × (((q : Call) → One q calls → q ≡ handed x y method cuts q.sheet) → is_curve w.answer ≡ true →
@@ -131,7 +125,7 @@ module _ (build : BuildAllows) (sheet : SheetAllows) where
   abbrev pub SameAnywhere : Type 0
   SameAnywhere =
       (x y : List Float) (method : ConvexMonotone) (cuts : List ℕ) → CutTable x y cuts →
-      (b : Buffers) (w : Outcome Built) → build x y method false seam.Absent b w → is_curve w.answer ≡ true →
+      (b : Buffers) (w : Outcome Built) → build x y method false None b w → is_curve w.answer ≡ true →
       (j : ℕ) → j ≤ length cuts → (c : Buffers) (o : Outcome SheetBuilt) →
       Sheeted x y method (piece_of (length x) cuts (handed x y method cuts j)) c o → is_sheet o.answer ≡ true →
       let p = piece_of (length x) cuts (handed x y method cuts j) in

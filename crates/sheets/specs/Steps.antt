@@ -1,15 +1,12 @@
 -- Steps of the code, which only the contracts of private functions cite.
-use Rattle.std.specs.Prelude.{ℕ, ◌+◌, ◌-◌, ◌*◌, ◌/◌, ◌≤◌, ◌<◌, Bool, cond, ◌&&◌, List, ◌⊎◌, ◌≡◌, eqb, leb, Float, length}
+use Rattle.std.specs.Prelude.{ℕ, ◌+◌, ◌-◌, ◌*◌, ◌/◌, ◌≤◌, ◌<◌, Bool, cond, ◌&&◌, List, ◌⊎◌, ◌≡◌, eqb, leb, Float, length, None, Some}
 use Rattle.numbers.specs.Overlay.{overlay}
 use Rattle.numbers.specs.Sizes.{slot_count}
-use Rattle.refusal.specs.Refusal.{first}
-use Rattle.refusal.specs.declared.Verdict.{Verdict}
+use Rattle.refusal.specs.Refusal.{first, Verdict}
 use Rattle.table.specs.Buffers.{Buffers, Outcome}
 use Rattle.table.specs.Sound.{Sound, Room}
-use Rattle.table.specs.Table.{at, node_at, total_at}
+use Rattle.table.specs.Table.{at, node_at, total_at, End}
 use Rattle.table.specs.declared.method.ConvexMonotone.{ConvexMonotone}
-use Rattle.table.specs.declared.ends.End.{End}
-use Rattle.table.specs.declared.ends.End.TheVariants as end
 use Rattle.assembly.specs.Making.{size_tests}
 use Rattle.assembly.specs.Sections.{tag_at, slot_at, tail_of}
 use Rattle.sheets.specs.Pieces.{Piece, whole, answer_of}
@@ -25,14 +22,14 @@ part_verdict place x y b = first (size_tests (length x) (length y) (length b.nod
 
 -- the node that a sheet is given on its left
 abbrev pub left_end : List Float → ℕ → End
-left_end nodes from = cond (eqb from 0) end.Free (end.Given (at nodes from))
+left_end nodes from = cond (eqb from 0) None (Some (at nodes from))
 
 -- a sheet that is handed the whole's numbers: a stretch of the table with the whole's nodes where it was cut, and the total before it
 pub record Fair (x y : List Float) (method : ConvexMonotone) (p : Piece) : Type 0 where
   pub rising : p.from < p.to
   pub inside : p.to ≤ length x - 1
-  pub left_end : ((p.from ≡ 0) × (p.left ≡ end.Free)) ⊎ ((0 < p.from) × (p.left ≡ end.Given (node_at x y (whole method) p.from)))
-  pub right_end : ((p.to ≡ length x - 1) × (p.right ≡ end.Free)) ⊎ ((p.to < length x - 1) × (p.right ≡ end.Given (node_at x y (whole method) p.to)))
+  pub left_end : ((p.from ≡ 0) × (p.left ≡ None)) ⊎ ((0 < p.from) × (p.left ≡ Some (node_at x y (whole method) p.from)))
+  pub right_end : ((p.to ≡ length x - 1) × (p.right ≡ None)) ⊎ ((p.to < length x - 1) × (p.right ≡ Some (node_at x y (whole method) p.to)))
   pub total : p.start ≡ total_at x y (whole method) p.from
 
 module _ (x y : List Float) (method : ConvexMonotone) where

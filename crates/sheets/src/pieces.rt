@@ -10,32 +10,21 @@ ghost use Rattle.sheets.specs.Cuts.{cuts_fit};
 ghost use Rattle.sheets.specs.InSheets.{in_sheets_outcome};
 ghost use Rattle.sheets.specs.Steps.{left_end, Fair, Ready, piece_of_whole};
 
-use crate::sheet::{SheetBuilt, SheetEnd, no_tail, sheet};
+use crate::sheet::{SheetEnd, sheet};
 use assembly::nodes::inner;
 use assembly::sections::Tail;
 use curve::build::{build, build_verdict};
-use curve::curve::{Built, Curve};
-use refusal::{Refusal, Verdict};
-use table::ends::{End, Seam};
+use curve::curve::Curve;
+use refusal::Refusal;
 use table::method::ConvexMonotone;
-
-fn less_one(n: usize) -> usize
-    ensures { result ≡ n - 1 }
-{
-    if n == 0 {
-        return 0;
-    }
-    n - 1
-}
 
 // Whether the cuts are inner knots of a table of so many points, each above the one before.
 pub fn cuts_fit(cuts: &[usize], points: usize) -> bool
     ensures { result ≡ cuts_fit cuts.now points }
 {
-    let last = less_one(points);
+    let last = points.saturating_sub(1);
     let mut before = 0;
-    for j in 0..cuts.len() {
-        let cut = cuts[j];
+    for &cut in cuts {
         if cut <= before {
             return false;
         }
@@ -56,14 +45,14 @@ fn cut_node(xs: &[f64], ys: &[f64], method: ConvexMonotone, i: usize) -> f64
 }
 
 // The node that a sheet is given on its left: where it was cut, that is the one which the sheet before it ended on.
-fn left_end(nodes: &[f64], from: usize) -> End
+fn left_end(nodes: &[f64], from: usize) -> Option<f64>
     requires { from < length nodes.now }
     ensures { result ≡ left_end nodes.now from }
 {
     if from == 0 {
-        return End::Free;
+        return None;
     }
-    End::Given(nodes[from])
+    Some(nodes[from])
 }
 
 // One sheet of a table that is accepted as a whole: it can't be refused.
@@ -73,8 +62,8 @@ fn build_sheet(
     method: ConvexMonotone,
     from: usize,
     to: usize,
-    left: End,
-    right: End,
+    left: Option<f64>,
+    right: Option<f64>,
     start: f64,
     nodes: &mut [f64],
     tags: &mut [u16],
@@ -86,7 +75,7 @@ fn build_sheet(
     ensures { outcome result nodes.new tags.new slots.new ≡ piece_of_whole xs.now ys.now method (record { from = from; to = to; left = left; right = right; start = start }) (buffers nodes.old tags.old slots.old) }
 {
     let past = to + 1;
-    match sheet(
+    sheet(
         &xs[from..past],
         &ys[from..past],
         method,
@@ -97,13 +86,8 @@ fn build_sheet(
         nodes,
         tags,
         slots,
-    ) {
-        SheetBuilt::Sheet(answer) => answer,
-        SheetBuilt::Refused(_) => SheetEnd {
-            total: 0.0,
-            tail: no_tail(),
-        },
-    }
+    )
+    .unwrap()
 }
 
 // All sheets of an accepted table, one after the other; answers the tail.
@@ -122,10 +106,9 @@ fn build_sheets(
 {
     let mut from = 0;
     let mut total = 0.0;
-    for j in 0..cuts.len() {
-        let to = cuts[j];
+    for &to in cuts {
         let left = left_end(nodes, from);
-        let right = End::Given(cut_node(xs, ys, method, to));
+        let right = Some(cut_node(xs, ys, method, to));
         let answer = build_sheet(
             xs, ys, method, from, to, left, right, total, nodes, tags, slots,
         );
@@ -135,17 +118,7 @@ fn build_sheets(
     let left = left_end(nodes, from);
     let last = xs.len() - 1;
     let answer = build_sheet(
-        xs,
-        ys,
-        method,
-        from,
-        last,
-        left,
-        End::Free,
-        total,
-        nodes,
-        tags,
-        slots,
+        xs, ys, method, from, last, left, None, total, nodes, tags, slots,
     );
     answer.tail
 }
@@ -160,33 +133,21 @@ pub fn build_in_sheets(
     nodes: &mut [f64],
     tags: &mut [u16],
     slots: &mut [f64],
-) -> Built
+) -> Result<Curve, Refusal>
     ensures { outcome result nodes.new tags.new slots.new ≡ in_sheets_outcome xs.now ys.now method cuts.now (buffers nodes.old tags.old slots.old) }
 {
     if !cuts_fit(cuts, xs.len()) {
-        return Built::Refused(Refusal::CutsNotInner);
+        return Err(Refusal::CutsNotInner);
     }
     if cuts.len() == 0 {
-        return build(xs, ys, method, false, Seam::Absent, nodes, tags, slots);
+        return build(xs, ys, method, false, None, nodes, tags, slots);
     }
-    match build_verdict(
-        xs,
-        ys,
-        method,
-        Seam::Absent,
-        nodes.len(),
-        tags.len(),
-        slots.len(),
-    ) {
-        Verdict::Refused(refusal) => Built::Refused(refusal),
-        Verdict::Accepted => {
-            let tail = build_sheets(xs, ys, method, cuts, nodes, tags, slots);
-            Built::Curve(Curve {
-                sections: xs.len() - 1,
-                held: false,
-                extrapolates: false,
-                tail,
-            })
-        }
-    }
+    build_verdict(xs, ys, method, None, nodes.len(), tags.len(), slots.len())?;
+    let tail = build_sheets(xs, ys, method, cuts, nodes, tags, slots);
+    Ok(Curve {
+        sections: xs.len() - 1,
+        held: false,
+        extrapolates: false,
+        tail,
+    })
 }

@@ -7,12 +7,12 @@ ghost use Rattle.assembly.specs.Making.{made_from};
 ghost use Rattle.sheets.specs.Sheet.{none_given, numbers_tests, sheet_tests, no_tail, end_of, sheet_outcome, sheet_in_numbers};
 ghost use Rattle.sheets.specs.Steps.{reaches, part_verdict};
 
-use assembly::making::{Made, make};
+use assembly::making::make;
 use assembly::sections::Tail;
 use numbers::SLOTS;
-use refusal::{Refusal, Verdict};
+use refusal::Refusal;
 use table::check::{average_below, room_verdict, table_verdict};
-use table::ends::{End, Frame, Seam};
+use table::ends::Frame;
 use table::method::ConvexMonotone;
 
 // The total after a sheet's last section, and the tail: three +0.0 where another sheet goes on from there.
@@ -22,14 +22,7 @@ pub struct SheetEnd {
     pub tail: Tail,
 }
 
-// What a sheet answers.
-#[derive(Clone, Copy)]
-pub enum SheetBuilt {
-    Sheet(SheetEnd),
-    Refused(Refusal),
-}
-
-// An answer in numbers: the refusal's, or 0, and what a sheet has; a refused one has nothing.
+// The answer of a sheet in numbers: the refusal's, or 0, and what a sheet has; a refused one has nothing.
 #[derive(Clone, Copy)]
 pub struct SheetInNumbers {
     pub refusal: u8,
@@ -47,70 +40,49 @@ pub(crate) fn no_tail() -> Tail
     }
 }
 
-impl SheetBuilt {
-    pub fn in_numbers(self) -> SheetInNumbers
-        ensures { result ≡ sheet_in_numbers self }
-    {
-        match self {
-            SheetBuilt::Sheet(end) => {
-                let tail = end.tail;
-                SheetInNumbers {
-                    refusal: 0,
-                    total: end.total,
-                    tail,
-                }
-            }
-            SheetBuilt::Refused(refusal) => {
-                let tail = no_tail();
-                SheetInNumbers {
-                    refusal: refusal.number(),
-                    total: 0.0,
-                    tail,
-                }
-            }
+impl From<Result<SheetEnd, Refusal>> for SheetInNumbers {
+    ghost from_gives = { λ built n. n ≡ sheet_in_numbers built };
+
+    fn from(built: Result<SheetEnd, Refusal>) -> Self {
+        match built {
+            Ok(end) => SheetInNumbers {
+                refusal: 0,
+                total: end.total,
+                tail: end.tail,
+            },
+            Err(refusal) => SheetInNumbers {
+                refusal: refusal.number(),
+                total: 0.0,
+                tail: no_tail(),
+            },
         }
     }
 }
 
-fn none_given(left: End, right: End) -> bool
+fn none_given(left: Option<f64>, right: Option<f64>) -> bool
     ensures { result ≡ none_given left right }
 {
-    match left {
-        End::Given(_) => false,
-        End::Free => match right {
-            End::Given(_) => false,
-            End::Free => true,
-        },
-    }
+    left.is_none() && right.is_none()
 }
 
 // Refusals 16, 1 to 7 and 29.
-fn numbers_verdict(xs: &[f64], ys: &[f64], method: ConvexMonotone, left: End, right: End) -> Verdict
+fn numbers_verdict(
+    xs: &[f64],
+    ys: &[f64],
+    method: ConvexMonotone,
+    left: Option<f64>,
+    right: Option<f64>,
+) -> Result<(), Refusal>
     ensures { result ≡ first (numbers_tests xs.now ys.now method left right) }
 {
     if none_given(left, right) {
-        return Verdict::Refused(Refusal::NoGivenNode);
+        return Err(Refusal::NoGivenNode);
     }
-    let verdict = table_verdict(xs, ys, method);
-    match verdict {
-        Verdict::Refused(_) => verdict,
-        Verdict::Accepted => {
-            if average_below(ys, method) {
-                return Verdict::Refused(Refusal::AverageBelowZero);
-            }
-            Verdict::Accepted
-        }
+    table_verdict(xs, ys, method)?;
+    if average_below(ys, method) {
+        return Err(Refusal::AverageBelowZero);
     }
-}
-
-// What is left of a buffer from a place on.
-fn entries_from(entries: usize, place: usize) -> usize
-    ensures { result ≡ entries - place }
-{
-    if entries < place {
-        return 0;
-    }
-    entries - place
+    Ok(())
 }
 
 // The slots that are left from a place on, computed without a product that could wrap.
@@ -128,38 +100,27 @@ pub fn sheet_verdict(
     xs: &[f64],
     ys: &[f64],
     method: ConvexMonotone,
-    left: End,
-    right: End,
+    left: Option<f64>,
+    right: Option<f64>,
     place: usize,
     nodes: usize,
     tags: usize,
     slots: usize,
-) -> Verdict
+) -> Result<(), Refusal>
     ensures { result ≡ first (sheet_tests xs.now ys.now method left right place nodes tags slots) }
 {
-    let verdict = numbers_verdict(xs, ys, method, left, right);
-    match verdict {
-        Verdict::Refused(_) => verdict,
-        Verdict::Accepted => {
-            let nodes_left = entries_from(nodes, place);
-            let tags_left = entries_from(tags, place);
-            let slots_left = slots_from(slots, place);
-            room_verdict(xs.len(), nodes_left, tags_left, slots_left)
-        }
-    }
+    numbers_verdict(xs, ys, method, left, right)?;
+    let nodes_left = nodes.saturating_sub(place);
+    let tags_left = tags.saturating_sub(place);
+    let slots_left = slots_from(slots, place);
+    room_verdict(xs.len(), nodes_left, tags_left, slots_left)
 }
 
 // Whether a place lies within the lent buffers, computed without a product that could wrap.
 fn reaches(place: usize, nodes: usize, tags: usize, slots: usize) -> bool
     ensures { result ≡ reaches place nodes tags slots }
 {
-    if nodes < place {
-        return false;
-    }
-    if tags < place {
-        return false;
-    }
-    place <= slots / SLOTS
+    place <= nodes && place <= tags && place <= slots / SLOTS
 }
 
 // Makes a table into the parts of the buffers that start at a place.
@@ -171,7 +132,7 @@ fn make_from(
     nodes: &mut [f64],
     tags: &mut [u16],
     slots: &mut [f64],
-) -> Made
+) -> Result<Tail, Refusal>
     requires { (place ≤ length nodes.old) × (place ≤ length tags.old) × (slot_count * place ≤ length slots.old) }
     ensures { outcome result nodes.new tags.new slots.new ≡ made_from place xs.now ys.now frame (part_verdict place xs.now ys.now (buffers nodes.old tags.old slots.old)) (buffers nodes.old tags.old slots.old) }
 {
@@ -186,18 +147,12 @@ fn make_from(
     )
 }
 
-fn end_of(right: End, tail: Tail) -> SheetEnd
+fn end_of(right: Option<f64>, tail: Tail) -> SheetEnd
     ensures { result ≡ end_of right tail }
 {
-    match right {
-        End::Free => SheetEnd {
-            total: tail.total,
-            tail,
-        },
-        End::Given(_) => SheetEnd {
-            total: tail.total,
-            tail: no_tail(),
-        },
+    SheetEnd {
+        total: tail.total,
+        tail: if right.is_some() { no_tail() } else { tail },
     }
 }
 
@@ -207,37 +162,31 @@ pub fn sheet(
     xs: &[f64],
     ys: &[f64],
     method: ConvexMonotone,
-    left: End,
-    right: End,
+    left: Option<f64>,
+    right: Option<f64>,
     start: f64,
     place: usize,
     nodes: &mut [f64],
     tags: &mut [u16],
     slots: &mut [f64],
-) -> SheetBuilt
+) -> Result<SheetEnd, Refusal>
     ensures { outcome result nodes.new tags.new slots.new ≡ sheet_outcome xs.now ys.now method left right start place (buffers nodes.old tags.old slots.old) }
 {
-    match numbers_verdict(xs, ys, method, left, right) {
-        Verdict::Refused(refusal) => SheetBuilt::Refused(refusal),
-        Verdict::Accepted => {
-            if 4096 < xs.len() {
-                return SheetBuilt::Refused(Refusal::TooManyPoints);
-            }
-            if !reaches(place, nodes.len(), tags.len(), slots.len()) {
-                return SheetBuilt::Refused(Refusal::BufferTooShort);
-            }
-            let frame = Frame {
-                method,
-                hold: false,
-                seam: Seam::Absent,
-                left,
-                right,
-                start,
-            };
-            match make_from(place, xs, ys, frame, nodes, tags, slots) {
-                Made::Refused(refusal) => SheetBuilt::Refused(refusal),
-                Made::Tail(tail) => SheetBuilt::Sheet(end_of(right, tail)),
-            }
-        }
+    numbers_verdict(xs, ys, method, left, right)?;
+    if 4096 < xs.len() {
+        return Err(Refusal::TooManyPoints);
     }
+    if !reaches(place, nodes.len(), tags.len(), slots.len()) {
+        return Err(Refusal::BufferTooShort);
+    }
+    let frame = Frame {
+        method,
+        hold: false,
+        seam: None,
+        left,
+        right,
+        start,
+    };
+    let tail = make_from(place, xs, ys, frame, nodes, tags, slots)?;
+    Ok(end_of(right, tail))
 }

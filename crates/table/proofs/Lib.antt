@@ -1,3 +1,4 @@
+pub mod Rest
 pub mod Checks
 pub mod Counts
 pub mod Outcomes

@@ -1,4 +1,5 @@
 -- In the safe mode no node is below 0: the inner ones are weighted means of averages, and the outer ones are held there.
+use Rattle.std.specs.Prelude.{None, Option, Some}
 use Prim.Native.Nat.{ℕ, ◌+◌, ◌-◌, ◌<◌}
 use native.Mathlib.Omega.{arith}
 use native.Mathlib.Nat.{eq-or-lt_of_le, eq-zero-or-pos}
@@ -16,12 +17,9 @@ use Rattle.numbers.proofs.Plus.{is_plus, sum_plus, quotient_plus, difference_plu
 use Rattle.numbers.proofs.Ways.{of_both}
 use Rattle.table.specs.Check.{rising, from_zero}
 use Rattle.table.specs.Safe.{NotBelow, SeamNotBelow, EndNotBelow, GivenNotBelow}
-use Rattle.table.specs.Table.{at, inner, seamed, outer, or_given, middle_at, second, second_last, first_node, last_node, node_at}
-use Rattle.table.specs.declared.ends.End.{End}
-use Rattle.table.specs.declared.ends.End.TheVariants as end
+use Rattle.table.specs.Table.{at, inner, seamed, outer, or_given, middle_at, second, second_last, first_node, last_node, node_at, End}
 use Rattle.table.specs.declared.ends.Frame.{Frame}
 use Rattle.table.specs.declared.ends.Seam.{Seam}
-use Rattle.table.specs.declared.ends.Seam.TheVariants as seam
 
 -- the share of a length in the two that meet at a knot
 share_plus : (a b : Float) → is_plus a ≡ true → is_plus b ≡ true → (c : Float) → is_plus c ≡ true → is_plus (c ⊘ (a ⊕ b)) ≡ true
@@ -37,9 +35,9 @@ inner_not_below before here after y next g h p q =
     (product_not_below (a ⊘ (a ⊕ b)) y (share_plus a b a-plus b-plus a a-plus) p)
     (product_not_below (b ⊘ (a ⊕ b)) next (share_plus a b a-plus b-plus b b-plus) q)
 
-seamed_not_below : (s : Seam) (i : ℕ) (f : Float) → SeamNotBelow s → NotBelow f → NotBelow (seamed s i f)
-seamed_not_below seam.Absent i f p q = q
-seamed_not_below (seam.At count g) i f p q = of_both NotBelow (eqb i count) g f p q
+seamed_not_below : (s : Option Seam) (i : ℕ) (f : Float) → SeamNotBelow s → NotBelow f → NotBelow (seamed s i f)
+seamed_not_below None i f p q = q
+seamed_not_below (Some s) i f p q = of_both NotBelow (eqb i s.count) s.node f p q
 
 -- an outer node is held at 0 where it would be below
 held : (g : Float) → NotBelow (cond (lt g zero) zero g)
@@ -53,8 +51,8 @@ outer_not_below : (y f : Float) → NotBelow (outer true y f)
 outer_not_below y f = held (three_halves ⊗ y ⊖ half ⊗ f)
 
 given_not_below : (e : End) (f : Float) → EndNotBelow e → NotBelow f → NotBelow (or_given e f)
-given_not_below end.Free f p q = q
-given_not_below (end.Given g) f p q = p
+given_not_below None f p q = q
+given_not_below (Some g) f p q = p
 
 module _ (x y : List Float) (frame : Frame) (positive : frame.method.force_positive ≡ true) (same : length x ≡ length y)
     (rise : rising x ≡ true) (signs : from_zero y ≡ true) (given : GivenNotBelow frame) where

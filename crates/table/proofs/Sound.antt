@@ -1,4 +1,5 @@
 -- The tests of a table pass exactly when it is sound, and those of sizes exactly when there is room.
+use Rattle.std.specs.Prelude.{Ok}
 use Prim.Native.Nat.{ℕ, ◌-◌, ◌*◌}
 use mathlib.Core.Bool.{false, ◌||◌}
 use mathlib.Core.List.{List}
@@ -10,14 +11,13 @@ use lib.ListN.{length}
 use Rattle.numbers.specs.Sizes.{slot_count}
 use Rattle.numbers.proofs.Ways.{or_none}
 use Rattle.refusal.specs.Refusal.{first}
-use Rattle.refusal.specs.declared.Verdict.TheVariants as verdict
 use Rattle.refusal.proofs.First.{passed}
 use Rattle.table.specs.Check.{table_tests, average_below, room_tests}
 use Rattle.table.specs.Sound.{Sound, Room}
 use Rattle.table.specs.declared.method.ConvexMonotone.{ConvexMonotone}
 
 module _ (x y : List Float) (method : ConvexMonotone) where
-  pub sound : first (table_tests x y method) ≡ verdict.Accepted → average_below y method ≡ false → Sound x y method
+  pub sound : first (table_tests x y method) ≡ Ok tt → average_below y method ≡ false → Sound x y method
   sound h signs =
       let (same, (monotonicity, (quadraticity, (low, (knots, (averages, (rise, _))))))) = passed (table_tests x y method) h in
       record {
@@ -31,7 +31,7 @@ module _ (x y : List Float) (method : ConvexMonotone) where
         signs = signs;
       }
 
-  pub is_sound : Sound x y method → first (table_tests x y method) ≡ verdict.Accepted
+  pub is_sound : Sound x y method → first (table_tests x y method) ≡ Ok tt
   is_sound s =
       rw (
         eq-eqb (length x) (length y) s.same,
@@ -44,7 +44,7 @@ module _ (x y : List Float) (method : ConvexMonotone) where
       )
 
 module _ (n nodes tags slots : ℕ) where
-  pub room : first (room_tests n nodes tags slots) ≡ verdict.Accepted → Room n nodes tags slots
+  pub room : first (room_tests n nodes tags slots) ≡ Ok tt → Room n nodes tags slots
   room h =
       let (high, (enough, _)) = passed (room_tests n nodes tags slots) h in
       let (in_nodes, others) = or_none (ltb nodes n) (ltb tags (n - 1) || ltb slots (slot_count * (n - 1))) enough in
@@ -56,7 +56,7 @@ module _ (n nodes tags slots : ℕ) where
         in_slots = ltb-false _ _ in_slots;
       }
 
-  pub has_room : Room n nodes tags slots → first (room_tests n nodes tags slots) ≡ verdict.Accepted
+  pub has_room : Room n nodes tags slots → first (room_tests n nodes tags slots) ≡ Ok tt
   has_room r =
       rw (
         le-ltb 4096 n r.high,

@@ -1,8 +1,7 @@
 -- 01, Buffers and section records; Refusal numbers. The three lent buffers of a build, and what a call answers and leaves in them.
-use Rattle.std.specs.Prelude.{ℕ, List, Float}
+use Rattle.refusal.specs.Refusal.{Verdict}
+use Rattle.std.specs.Prelude.{ℕ, List, Float, Err, Ok}
 use Rattle.refusal.specs.declared.Refusal.{Refusal}
-use Rattle.refusal.specs.declared.Verdict.{Verdict}
-use Rattle.refusal.specs.declared.Verdict.TheVariants as verdict
 
 pub record Buffers : Type 0 where
   pub nodes : List Float
@@ -22,5 +21,5 @@ outcome answer nodes tags slots = record { answer = answer; buffers = buffers no
 
 -- A refused call answers its refusal, and its buffers stay as they were.
 abbrev pub judged : {A : Type 0} → Verdict → (Refusal → A) → Buffers → Outcome A → Outcome A
-judged verdict.Accepted refuse old new = new
-judged (verdict.Refused r) refuse old new = record { answer = refuse r; buffers = old }
+judged (Ok tt) refuse old new = new
+judged (Err r) refuse old new = record { answer = refuse r; buffers = old }

@@ -1,5 +1,5 @@
 -- 01, Refusal numbers: what is asked of a table
-use Rattle.std.specs.Prelude.{ℕ, ◌+◌, ◌-◌, ◌*◌, Bool, false, not, ◌&&◌, ◌||◌, List, [], ◌∷◌, eqb, ltb, leb, Float, length}
+use Rattle.std.specs.Prelude.{ℕ, ◌+◌, ◌-◌, ◌*◌, Bool, false, not, ◌&&◌, ◌||◌, List, [], ◌∷◌, eqb, ltb, leb, Float, length, None, Option, Some}
 use Rattle.std.specs.Float.Ieee.{lt, le}
 use Rattle.numbers.specs.Every.{all_below}
 use Rattle.numbers.specs.Words.{zero, one, finite}
@@ -10,7 +10,6 @@ use Rattle.table.specs.declared.check.Knots.{Knots}
 use Rattle.table.specs.declared.method.ConvexMonotone.{ConvexMonotone}
 use Rattle.table.specs.Method.{safely}
 use Rattle.table.specs.declared.ends.Seam.{Seam}
-use Rattle.table.specs.declared.ends.Seam.TheVariants as seam
 use Rattle.table.specs.Table.{at}
 
 unfoldable pub all_finite : List Float → Bool
@@ -29,9 +28,9 @@ knots_of xs = record { finite = all_finite xs; rising = rising xs }
 abbrev pub in_unit : Float → Bool
 in_unit x = le zero x && le x one
 
-abbrev pub seam_too_long : Seam → ℕ → Bool
-seam_too_long seam.Absent n = false
-seam_too_long (seam.At count g) n = leb n (count + 1)
+abbrev pub seam_too_long : Option Seam → ℕ → Bool
+seam_too_long None n = false
+seam_too_long (Some s) n = leb n (s.count + 1)
 
 abbrev pub no_room : ℕ → ℕ → ℕ → ℕ → Bool
 no_room n nodes tags slots = ltb nodes n || (ltb tags (n - 1) || ltb slots (slot_count * (n - 1)))
@@ -53,7 +52,7 @@ abbrev pub room_tests : ℕ → ℕ → ℕ → ℕ → List Test
 room_tests n nodes tags slots = (ltb 4096 n ⇒ TooManyPoints) ∷ (no_room n nodes tags slots ⇒ BufferTooShort) ∷ []
 
 -- 8
-abbrev pub seam_test : Seam → ℕ → Test
+abbrev pub seam_test : Option Seam → ℕ → Test
 seam_test s n = seam_too_long s n ⇒ SeamTooLong
 
 -- each average that is read is at or above 0; the first is not read

@@ -1,27 +1,28 @@
 -- 01, Node values; Sheets. The numbers that stand at each knot, by place.
 use Prim.Native.Nat as nat
-use Rattle.std.specs.Prelude.{ℕ, suc, ◌+◌, ◌-◌, Bool, ◌&&◌, List, eqb, Float, length, get_or}
+use Rattle.std.specs.Prelude.{ℕ, suc, ◌+◌, ◌-◌, Bool, ◌&&◌, List, eqb, Float, length, get_or, None, Option, Some}
 use Rattle.std.proofs.Math.Bool.{cond}
 use Rattle.std.specs.Float.{nan}
 use Rattle.std.specs.Float.Ieee.{lt}
 use Rattle.numbers.specs.Words.{◌⊕◌, ◌⊖◌, ◌⊗◌, ◌⊘◌, zero, half, three_halves}
 use Rattle.table.specs.declared.ends.Frame.{Frame}
-use Rattle.table.specs.declared.ends.End.{End}
-use Rattle.table.specs.declared.ends.End.TheVariants as end
 use Rattle.table.specs.declared.ends.Seam.{Seam}
-use Rattle.table.specs.declared.ends.Seam.TheVariants as seam
 
 abbrev pub at : List Float → ℕ → Float
 at xs i = get_or xs i nan
+
+-- a node given for an end of the table, in place of the one that the rule gives
+abbrev pub End : Type 0
+End = Option Float
 
 -- the node at an inner knot, from the averages of the periods on its two sides
 abbrev pub inner : Float → Float → Float → Float → Float → Float
 inner before here after y next = let p = here ⊖ before in let d = after ⊖ here in d ⊘ (d ⊕ p) ⊗ y ⊕ p ⊘ (d ⊕ p) ⊗ next
 
 -- a seam replaces the node at its count
-abbrev pub seamed : Seam → ℕ → Float → Float
-seamed seam.Absent i f = f
-seamed (seam.At count g) i f = cond (eqb i count) g f
+abbrev pub seamed : Option Seam → ℕ → Float → Float
+seamed None i f = f
+seamed (Some s) i f = cond (eqb i s.count) s.node f
 
 -- an end node from the average y beside it and the next node f, and not below zero if that is asked
 abbrev pub outer : Bool → Float → Float → Float
@@ -29,8 +30,8 @@ outer positive y f = let g = three_halves ⊗ y ⊖ half ⊗ f in cond (positive
 
 -- a given node stands in for the end's own
 abbrev pub or_given : End → Float → Float
-or_given end.Free f = f
-or_given (end.Given g) f = g
+or_given None f = f
+or_given (Some g) f = g
 
 -- knots x, averages y, and what is given about them
 module _ (x y : List Float) (frame : Frame) where

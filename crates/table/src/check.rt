@@ -6,7 +6,7 @@ ghost use Rattle.table.specs.Check.{all_finite, knots_of, in_unit, from_zero, se
 use crate::ends::Seam;
 use crate::method::ConvexMonotone;
 use numbers::SLOTS;
-use refusal::{Refusal, Verdict};
+use refusal::Refusal;
 
 // These loops count what holds, and no test leaves them early: a refused table is rare, and a loop that always runs to its end goes several numbers at a
 // time. With flags it does so too, but on Arm the compiler packs sixteen of them into one register, and reads a table of fewer knots one by one.
@@ -14,8 +14,8 @@ pub fn all_finite(xs: &[f64]) -> bool
     ensures { result ≡ all_finite xs.now }
 {
     let mut finite = 0;
-    for i in 0..xs.len() {
-        finite += numbers::is_finite(xs[i]) as usize;
+    for x in xs {
+        finite += numbers::is_finite(*x) as usize;
     }
     finite == xs.len()
 }
@@ -32,25 +32,24 @@ pub struct Knots {
 pub fn knots_of(xs: &[f64]) -> Knots
     ensures { result ≡ knots_of xs.now }
 {
-    if xs.len() == 0 {
+    let [first, rest @ ..] = xs else {
         return Knots {
             finite: true,
             rising: true,
         };
-    }
-    let steps = xs.len() - 1;
-    let mut before = xs[0];
+    };
+    let mut before = *first;
     let mut finite = numbers::is_finite(before) as usize;
     let mut rising = 0;
-    for i in 0..steps {
-        let knot = xs[i + 1];
+    for x in rest {
+        let knot = *x;
         finite += numbers::is_finite(knot) as usize;
         rising += (before < knot) as usize;
         before = knot;
     }
     Knots {
         finite: finite == xs.len(),
-        rising: rising == steps,
+        rising: rising == rest.len(),
     }
 }
 
@@ -62,46 +61,41 @@ pub fn in_unit(x: f64) -> bool
 }
 
 // Refusals 1 to 7.
-pub fn table_verdict(xs: &[f64], ys: &[f64], method: ConvexMonotone) -> Verdict
+pub fn table_verdict(xs: &[f64], ys: &[f64], method: ConvexMonotone) -> Result<(), Refusal>
     ensures { result ≡ first (table_tests xs.now ys.now method) }
 {
     if xs.len() != ys.len() {
-        return Verdict::Refused(Refusal::LengthsDiffer);
+        return Err(Refusal::LengthsDiffer);
     }
     if !in_unit(method.monotonicity) {
-        return Verdict::Refused(Refusal::MonotonicityOutside);
+        return Err(Refusal::MonotonicityOutside);
     }
     if !in_unit(method.quadraticity) {
-        return Verdict::Refused(Refusal::QuadraticityOutside);
+        return Err(Refusal::QuadraticityOutside);
     }
     if xs.len() < 2 {
-        return Verdict::Refused(Refusal::TooFewPoints);
+        return Err(Refusal::TooFewPoints);
     }
     let knots = knots_of(xs);
     if !knots.finite {
-        return Verdict::Refused(Refusal::KnotNotFinite);
+        return Err(Refusal::KnotNotFinite);
     }
     if !all_finite(ys) {
-        return Verdict::Refused(Refusal::AverageNotFinite);
+        return Err(Refusal::AverageNotFinite);
     }
     if !knots.rising {
-        return Verdict::Refused(Refusal::KnotsNotRising);
+        return Err(Refusal::KnotsNotRising);
     }
-    Verdict::Accepted
+    Ok(())
 }
 
 // Refusal 8, computed without a sum that could wrap.
-pub fn seam_too_long(seam: Seam, points: usize) -> bool
+pub fn seam_too_long(seam: Option<Seam>, points: usize) -> bool
     ensures { result ≡ seam_too_long seam points }
 {
     match seam {
-        Seam::Absent => false,
-        Seam::At(count, _) => {
-            if points == 0 {
-                return true;
-            }
-            points - 1 <= count
-        }
+        None => false,
+        Some(seam) => points.saturating_sub(1) <= seam.count,
     }
 }
 
@@ -109,45 +103,39 @@ pub fn seam_too_long(seam: Seam, points: usize) -> bool
 fn from_zero(ys: &[f64]) -> bool
     ensures { result ≡ from_zero ys.now }
 {
-    if ys.len() == 0 {
+    let [_, read @ ..] = ys else {
         return true;
-    }
-    let read = ys.len() - 1;
+    };
     let mut counted = 0;
-    for i in 0..read {
-        counted += (0.0 <= ys[i + 1]) as usize;
+    for y in read {
+        counted += (0.0 <= *y) as usize;
     }
-    counted == read
+    counted == read.len()
 }
 
 // Refusal 29: no curve at or above 0 can keep an average below it.
 pub fn average_below(ys: &[f64], method: ConvexMonotone) -> bool
     ensures { result ≡ average_below ys.now method }
 {
-    if method.is_safe() {
-        return !from_zero(ys);
-    }
-    false
+    method.is_safe() && !from_zero(ys)
 }
 
 // Refusals 10 and 11, for lent buffers of these lengths.
-pub fn room_verdict(points: usize, nodes: usize, tags: usize, slots: usize) -> Verdict
+pub fn room_verdict(points: usize, nodes: usize, tags: usize, slots: usize) -> Result<(), Refusal>
     ensures { result ≡ first (room_tests points nodes tags slots) }
 {
     if 4096 < points {
-        return Verdict::Refused(Refusal::TooManyPoints);
+        return Err(Refusal::TooManyPoints);
     }
     if nodes < points {
-        return Verdict::Refused(Refusal::BufferTooShort);
+        return Err(Refusal::BufferTooShort);
     }
-    if points == 0 {
-        return Verdict::Accepted;
+    let sections = points.saturating_sub(1);
+    if tags < sections {
+        return Err(Refusal::BufferTooShort);
     }
-    if tags < points - 1 {
-        return Verdict::Refused(Refusal::BufferTooShort);
+    if slots < SLOTS * sections {
+        return Err(Refusal::BufferTooShort);
     }
-    if slots < SLOTS * (points - 1) {
-        return Verdict::Refused(Refusal::BufferTooShort);
-    }
-    Verdict::Accepted
+    Ok(())
 }

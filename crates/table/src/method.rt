@@ -1,24 +1,14 @@
 // The settings of the method, passed whole.
 ghost use Rattle.std.specs.Prelude.{◌≡◌};
-ghost use Rattle.table.specs.Method.{new, defaults, gas, with_split, is_safe, safely};
+ghost use Rattle.table.specs.Method.{new, defaults, gas, with_split, safely};
 
 // When positivity splits a parabola. The original does so wherever its two tests pass, also where the period then loses its average. The careful split
 // leaves such a parabola whole. The safe split decides as exact arithmetic would, so that no price falls below 0 either; its table has no average below 0.
-#[derive(Clone, Copy)]
+#[derive(Clone, Copy, Debug, PartialEq, Eq)]
 pub enum Split {
     Original,
     Careful,
     Safe,
-}
-
-fn is_safe(split: Split) -> bool
-    ensures { result ≡ is_safe split }
-{
-    match split {
-        Split::Original => false,
-        Split::Careful => false,
-        Split::Safe => true,
-    }
 }
 
 #[derive(Clone, Copy)]
@@ -60,23 +50,14 @@ impl ConvexMonotone {
     pub fn with_split(self, split: Split) -> Self
         ensures { result ≡ with_split split self }
     {
-        Self {
-            quadraticity: self.quadraticity,
-            monotonicity: self.monotonicity,
-            force_positive: self.force_positive,
-            split,
-        }
+        Self { split, ..self }
     }
 
     // Whether prices are to be safe: the safe split with positivity. Without positivity the safe split is the original's.
     pub fn is_safe(self) -> bool
         ensures { result ≡ safely self }
     {
-        let split = self.split;
-        if is_safe(split) {
-            return self.force_positive;
-        }
-        false
+        self.split == Split::Safe && self.force_positive
     }
 
     pub fn defaults() -> Self

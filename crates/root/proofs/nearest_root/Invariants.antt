@@ -1,10 +1,6 @@
 -- The invariant: the digits of s * 2 ^ 52 that were taken are root * root + rest, and those to come stand in left.
-use Prim.Native.Nat.{ℕ, ◌+◌, ◌-◌, ◌*◌, ◌/◌, ◌%◌, ◌^◌, ◌≤◌, ◌<◌}
+use Prim.Native.Nat.{◌+◌, ◌-◌, ◌*◌, ◌^◌, ◌≤◌, ◌<◌}
 use mathlib.Core.Path.{◌≡◌}
-use mathlib.Core.Logic.{⊎_elim}
-use native.Mathlib.Omega.{arith}
-use Rattle.root.proofs.Powers.{pow_next, lt_pow}
-use Rattle.root.proofs.Isqrt.{found_up, found_down}
 use Rattle.root.proofs.nearest_root.Given as goal
 
 abbrev pub invariant-loop-i : goal.invariant-loop-i

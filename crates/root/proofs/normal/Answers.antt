@@ -1,15 +1,13 @@
 -- `root::normal` meets its contract: what is settled is the nearest whole number to the root of the normalised number, under its exponent.
 use Prim.Native.Nat.{ℕ, ◌+◌, ◌-◌, ◌*◌, ◌/◌, ◌%◌, ◌^◌}
 use native.Mathlib.Omega.{arith}
-use mathlib.Core.Logic.{◌⊎◌, inl, inr, ⊎_elim}
-use mathlib.Core.Path.{◌≡◌, refl, ap, ◌∙◌}
-use borrow.Author.Rules.{rules}
-use Rattle.numbers.proofs.Nan.{same_number}
+use mathlib.Core.Path.{◌≡◌, ap, ◌∙◌}
 use Rattle.root.specs.Root.{nearest_root, scaled}
 use Rattle.root.specs.Steps.{root_bits}
 use Rattle.root.proofs.Scaling.{significand_small, pairs_high, root_small}
 use Rattle.root.proofs.Units.{normal_units}
 use Rattle.root.proofs.normal.Goals as goal
+use Rattle.root.proofs.normal.Goals.{In_ok-r}
 
 -- the number is q * 2 ^ k units
 abbrev q_of : ℕ → ℕ
@@ -18,15 +16,12 @@ q_of bits = bits % 2 ^ 52 + 2 ^ 52
 abbrev k_of : ℕ → ℕ
 k_of bits = bits / 2 ^ 52 - 1
 
--- what was settled, over the normalised number
-found : (r n m : ℕ) → (r ≡ 0 → ⊥) → (r ≡ 0) ⊎ (r ≡ nearest_root n) → n ≡ m → r ≡ nearest_root m
-found r n m z s e = ⊎_elim (λ w. absurd (z w)) (λ w. w ∙ ap nearest_root e) s
+-- what was settled, over the number's units
+found : (c : In_ok-r) → c.in_ok-r.r ≡ nearest_root (scaled (q_of c.args.bits * 2 ^ k_of c.args.bits))
+found c = c.in_ok-r.ensures ∙ ap nearest_root c.normalise-n.ensures.0
 
-pub float_to_bits-g : goal.float_to_bits-g
-float_to_bits-g c = same_number c.guess-x.result c.if-x.false
-
-pub settle-r-requires : goal.settle-r-requires
-settle-r-requires c =
+pub settle-requires : goal.settle-requires
+settle-requires c =
     omega (arith, significand_small (q_of c.args.bits) (k_of c.args.bits) (omega arith) (omega arith) _ c.normalise-n.ensures.0)
 
 pub overflow_mul-result : goal.overflow_mul-result
@@ -35,9 +30,8 @@ overflow_mul-result c =
 
 pub overflow_add-result : goal.overflow_add-result
 overflow_add-result c =
-    omega (arith, found _ _ _ c.if-r-eq0.false c.settle-r.ensures c.normalise-n.ensures.0, c.normalise-n.ensures.1, pairs_high (q_of c.args.bits) (k_of c.args.bits) (omega arith) (omega arith) (omega arith), root_small (q_of c.args.bits) (k_of c.args.bits) (omega arith) (omega arith))
+    omega (arith, found c.before, c.normalise-n.ensures.1, pairs_high (q_of c.args.bits) (k_of c.args.bits) (omega arith) (omega arith) (omega arith), root_small (q_of c.args.bits) (k_of c.args.bits) (omega arith) (omega arith))
 
 pub returns : goal.returns
 unfolding root_bits
-returns c =
-    inr (rw (found _ _ _ c.if-r-eq0.false c.settle-r.ensures c.normalise-n.ensures.0, c.normalise-n.ensures.1, normal_units c.args.bits (omega arith)))
+returns c = rw (found c.before, c.normalise-n.ensures.1, normal_units c.args.bits (omega arith))

@@ -1,6 +1,5 @@
 -- `root::normalise` meets its contract: the shift brings q * 2 ^ k to size, and the exponent's half is the root's.
 use native.Mathlib.Omega.{arith}
-use borrow.Author.Rules.{rules}
 use lib.Count.{count_leading_zeros}
 use Rattle.root.proofs.Scaling.{Placed, placed, exponent_is, significand_is}
 use Rattle.root.proofs.normalise.Goals as goal

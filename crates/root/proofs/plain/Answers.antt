@@ -2,7 +2,6 @@
 use Prim.Native.Nat.{◌^◌}
 use native.Mathlib.Omega.{arith}
 use native.Mathlib.Nat.{mul-one}
-use borrow.Author.Rules.{rules}
 use borrow.Author.Tests.{lt-ltb, le-ltb}
 use Rattle.root.specs.Steps.{units_of_bits}
 use Rattle.root.proofs.plain.Goals as goal

@@ -2,7 +2,6 @@
 use Prim.Native.Nat.{◌*◌, ◌^◌}
 use native.Mathlib.Omega.{arith}
 use mathlib.Core.Path.{◌≡◌, ap, ◌∙◌}
-use borrow.Author.Rules.{rules}
 use Rattle.root.specs.Root.{nearest_root, scaled}
 use Rattle.root.specs.Steps.{root_bits}
 use Rattle.root.proofs.Scaling.{significand_small, pairs_high, root_small}

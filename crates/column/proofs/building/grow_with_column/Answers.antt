@@ -16,5 +16,5 @@ pub returns-then-column-size : goal.returns-then-column-size
 returns-then-column-size c =
     let a = c.args in
     let lent = buffers a.nodes.now a.tags.now a.slots.now in
-    carried_on a.xs.now lent a.column.now _ _ _ _ (sym c.carry.ensures ∙ c.in-Seam.is)
-    (short_column a.xs.now a.ys.now a.method (holds (length a.xs.now) a.final_size) c.in-Seam.seam lent a.column.now _ c.short_verdict.ensures (lt-ltb _ _ c.if-column-size.true))
+    carried_on a.xs.now lent a.column.now _ _ _ _ (sym c.carry.ensures ∙ c.in_ok-seam.was)
+    (short_column a.xs.now a.ys.now a.method (holds (length a.xs.now) a.final_size) c.in_ok-seam.seam lent a.column.now _ c.short_verdict.ensures (lt-ltb _ _ c.if-column-size.true))

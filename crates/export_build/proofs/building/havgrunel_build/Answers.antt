@@ -1,9 +1,9 @@
 -- With no room for its answers it asks the library for its refusal alone, and with room it returns what the library built.
+use Rattle.curve.specs.Curve.{Built}
 use mathlib.Core.Path.{sym, ap, ◌∙◌}
 use borrow.Author.Tests.{le-ltb}
 use Rattle.table.specs.Buffers.{Outcome, buffers}
 use Rattle.curve.specs.Build.{build_outcome}
-use Rattle.curve.specs.declared.curve.Built.{Built}
 use Rattle.export_build.specs.Building.{seam_of, short_refusal}
 use Rattle.export_build.specs.Settings.{unknown, method_of}
 use Rattle.export_build.proofs.Across.{curve_short, build_last, same_build}

@@ -1,9 +1,9 @@
 -- As `havgrunel_build` does.
+use Rattle.curve.specs.Curve.{Built}
 use mathlib.Core.Path.{sym, ap, ◌∙◌}
 use borrow.Author.Tests.{le-ltb}
 use Rattle.table.specs.Buffers.{Outcome, buffers}
 use Rattle.curve.specs.Build.{build_outcome}
-use Rattle.curve.specs.declared.curve.Built.{Built}
 use Rattle.column.specs.Column.{with_column}
 use Rattle.export_build.specs.Building.{seam_of, short_refusal}
 use Rattle.export_build.specs.Settings.{unknown, method_of}

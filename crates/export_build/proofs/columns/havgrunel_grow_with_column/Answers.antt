@@ -1,9 +1,9 @@
 -- As `havgrunel_grow` does.
+use Rattle.curve.specs.Curve.{Built}
 use mathlib.Core.Path.{sym, ap, ◌∙◌}
 use borrow.Author.Tests.{le-ltb}
 use lib.ListN.{length}
 use Rattle.table.specs.Buffers.{Outcome, buffers}
-use Rattle.curve.specs.declared.curve.Built.{Built}
 use Rattle.growth.specs.Growth.{carried_at, grow_outcome, holds}
 use Rattle.column.specs.Column.{with_column}
 use Rattle.export_build.specs.Building.{short_refusal}

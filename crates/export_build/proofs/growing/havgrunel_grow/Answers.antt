@@ -1,9 +1,9 @@
 -- With no room for its answers it asks for the refusal alone, and with room it returns what the library grew.
+use Rattle.curve.specs.Curve.{Built}
 use mathlib.Core.Path.{sym, ap, ◌∙◌}
 use borrow.Author.Tests.{le-ltb}
 use lib.ListN.{length}
 use Rattle.table.specs.Buffers.{Outcome, buffers}
-use Rattle.curve.specs.declared.curve.Built.{Built}
 use Rattle.growth.specs.Growth.{carried_at, grow_outcome, holds}
 use Rattle.export_build.specs.Building.{short_refusal}
 use Rattle.export_build.specs.Growing.{previous_of}

@@ -1,26 +1,27 @@
 -- One record is read, the last that is kept.
 use Prim.Native.Nat.{◌-◌, ◌*◌}
 use native.Mathlib.Nat.{add-sub_cancel_left}
-use mathlib.Core.Path.{◌≡◌, sym, ◌∙◌}
-use lib.ListN.{take, drop, get_or}
+use mathlib.Core.Path.{◌≡◌, sym, ap, ◌∙◌}
+use Rattle.std.specs.Prelude.{Some, None, Err}
+use Rattle.refusal.specs.declared.Refusal.TheVariants.{RecordNotLegal}
+use Rattle.refusal.proofs.First.{handed}
+use native.Mathlib.Omega.{arith}
 use Rattle.numbers.specs.Sizes.{slot_count}
-use Rattle.record.specs.Reading.{read_section}
 use Rattle.growth.proofs.Seams.{after_none, after_section, after_illegal}
 use Rattle.growth.proofs.growth.seam_after.Goals as goal
 
 pub returns-then-count-eq0 : goal.returns-then-count-eq0
 returns-then-count-eq0 c = let a = c.args in after_none a.count a.tags.now a.slots.now c.if-count-eq0.true
 
-pub returns-in-Section : goal.returns-in-Section
-returns-in-Section c =
-    let read : let a = c.args in
-    c.read_section.result ≡ read_section (get_or a.tags.now (a.count - 1) 0) (take slot_count (drop (slot_count * (a.count - 1)) a.slots.now)) = rw (add-sub_cancel_left (slot_count * (c.args.count - 1)) slot_count) at c.read_section.ensures in
+pub returns : goal.returns
+returns c =
     let a = c.args in
-    after_section a.count a.tags.now a.slots.now _ _ c.if-count-eq0.false (sym read ∙ c.in-Section.is) c.f_next.ensures
+    let found : c.read_section.result ≡ Some c.in_ok-section.section = grind arith in
+    after_section a.count a.tags.now a.slots.now _ _ c.if-count-eq0.false (sym (rw (add-sub_cancel_left (slot_count * (a.count - 1)) slot_count) at c.read_section.ensures) ∙ found) c.f_next.ensures
 
-pub returns-in-Illegal : goal.returns-in-Illegal
-returns-in-Illegal c =
-    let read : let a = c.args in
-    c.read_section.result ≡ read_section (get_or a.tags.now (a.count - 1) 0) (take slot_count (drop (slot_count * (a.count - 1)) a.slots.now)) = rw (add-sub_cancel_left (slot_count * (c.args.count - 1)) slot_count) at c.read_section.ensures in
+pub returns-in_err-section : goal.returns-in_err-section
+returns-in_err-section c =
     let a = c.args in
-    after_illegal a.count a.tags.now a.slots.now c.if-count-eq0.false (sym read ∙ c.in-Illegal.is)
+    let none : c.read_section.result ≡ None = grind arith in
+    let e : c.in_err-section.field-0.0 ≡ RecordNotLegal = grind arith in
+    handed _ c.from_residual.ensures.1 ∙ ap Err e ∙ after_illegal a.count a.tags.now a.slots.now c.if-count-eq0.false (sym (rw (add-sub_cancel_left (slot_count * (a.count - 1)) slot_count) at c.read_section.ensures) ∙ none)

@@ -16,9 +16,11 @@ loop-k-preserved c =
       search rules,
       search rules,
       search rules,
-      ap length p ∙ length_overlay _ _ _ _ ∙ l.invariant.4,
-      line_more a.order.now a.from a.xs.now a.curve a.tags.now a.slots.now l.k _ _ _ _ _ refl (c.ask-line.ensures ∙ ap (line_of a.xs.now a.curve a.tags.now a.slots.now) c.float_at.ensures) l.invariant.5 p,
+      search rules,
+      search rules,
+      ap length p ∙ length_overlay _ _ _ _ ∙ l.invariant.6,
+      line_more a.form.bytes.now _ a.xs.now a.curve a.tags.now a.slots.now l.k _ _ _ _ _ refl (c.ask-line.ensures ∙ ap (line_of a.xs.now a.curve a.tags.now a.slots.now) c.float_at.ensures) l.invariant.7 p,
     )
 
 pub loop-k-init : goal.loop-k-init
-loop-k-init c = (search rules, search rules, search rules, search rules, refl, overlay_none 10 _ _)
+loop-k-init c = (search rules, search rules, search rules, search rules, search rules, search rules, refl, overlay_none 10 _ _)

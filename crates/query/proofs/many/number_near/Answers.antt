@@ -1,4 +1,5 @@
 -- From the last knot on the tail answers, and before it the record at the place that was found.
+use Rattle.std.specs.Prelude.{Some}
 use native.Mathlib.Omega.{arith}
 use mathlib.Core.Path.{sym, ap, ◌∙◌}
 use lib.ListN.{length}
@@ -6,7 +7,6 @@ use Rattle.numbers.specs.Marks.{mark}
 use Rattle.section.specs.declared.section.Section.{Section}
 use Rattle.record.specs.Number.{answer_in}
 use Rattle.record.specs.Reading.{record_at}
-use Rattle.record.specs.declared.number.Answer.TheVariants as answer
 use Rattle.query.specs.Steps.{figure}
 use Rattle.query.proofs.Answers.{Reaches, reached}
 use Rattle.query.proofs.Walk.{place_le}
@@ -16,7 +16,7 @@ use Rattle.query.proofs.many.number_near.Goals as goal
 pub returns-then-end-q : goal.returns-then-end-q
 returns-then-end-q c =
     let a = c.args in record {
-      answer = ap answer.Number (c.mark.ensures ∙ ap mark c.tail_number.ensures)
+      answer = ap Some (c.mark.ensures ∙ ap mark c.tail_number.ensures)
           ∙ sym (ap (answer_in (λ (k : Section). figure a.wanted k a.q)) (from_the_last a.xs.now a.curve a.tags.now a.slots.now a.q c.if-end-q.true));
       place = c.requires.1;
     }

@@ -1,4 +1,5 @@
 -- The search ends within the records.
+use Rattle.std.specs.Prelude.{Some}
 use native.Mathlib.Omega.{arith}
 use mathlib.Core.Path.{sym, ap, ◌∙◌}
 use lib.ListN.{length}
@@ -6,7 +7,6 @@ use Rattle.numbers.specs.Marks.{mark}
 use Rattle.section.specs.declared.section.Section.{Section}
 use Rattle.record.specs.Number.{answer_in}
 use Rattle.record.specs.Reading.{record_at}
-use Rattle.record.specs.declared.number.Answer.TheVariants as answer
 use Rattle.query.proofs.Answers.{Reaches, reached}
 use Rattle.query.proofs.Walk.{place_le}
 use Rattle.query.specs.Steps.{figure}
@@ -16,7 +16,7 @@ use Rattle.query.proofs.single.covering_number.Goals as goal
 pub returns-then-xs-end : goal.returns-then-xs-end
 returns-then-xs-end c =
     let a = c.args in
-    ap answer.Number (c.mark.ensures ∙ ap mark c.tail_number.ensures)
+    ap Some (c.mark.ensures ∙ ap mark c.tail_number.ensures)
     ∙ sym (ap (answer_in (λ (s : Section). figure a.wanted s a.q)) (from_the_last a.xs.now a.curve a.tags.now a.slots.now a.q c.if-xs-end.true))
 
 -- the place that was found has a record

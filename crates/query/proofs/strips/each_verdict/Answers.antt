@@ -43,12 +43,12 @@ loop-k-preserved c =
       l.invariant.1,
       c.look-until.ensures.place,
       one_more l.k _ l.invariant.3
-          (sym (ap verdict_in (by_totals a.xs.now a.curve a.tags.now a.slots.now (at a.starts.now l.k) (at a.ends.now l.k) _ _ _ here.0 c.look-until.ensures.answer c.strip_of.ensures)) ∙ sym c.verdict.ensures ∙ c.in-Accepted.is),
+          (sym (ap verdict_in (by_totals a.xs.now a.curve a.tags.now a.slots.now (at a.starts.now l.k) (at a.ends.now l.k) _ _ _ here.0 c.look-until.ensures.answer c.strip_of.ensures)) ∙ sym c.verdict.ensures ∙ c.in_default.is),
       (λ o. c.look-until.ensures.answer ∙ ap (λ (i : ℕ). total_to a.xs.now a.curve a.tags.now a.slots.now (at a.ends.now i)) e),
     )
 
-pub returns-in-Refused : goal.returns-in-Refused
-returns-in-Refused c =
+pub returns-in-Err : goal.returns-in-Err
+returns-in-Err c =
     let kept : let a = c.args in let l = c.loop-k in
     c.if-adjoining.asked ≡ true → l.before ≡ total_to a.xs.now a.curve a.tags.now a.slots.now (at a.starts.now l.k) = λ h. let a = c.args in
     let l = c.loop-k in
@@ -71,7 +71,7 @@ returns-in-Refused c =
     let a = c.args in
     let l = c.loop-k in
     one_refused (length a.starts.now) l.k _ _ (omega (arith, l.invariant.1, c.loop-k-test.true)) l.invariant.3
-    (sym (ap verdict_in (by_totals a.xs.now a.curve a.tags.now a.slots.now (at a.starts.now l.k) (at a.ends.now l.k) _ _ _ here.0 c.look-until.ensures.answer c.strip_of.ensures)) ∙ sym c.verdict.ensures ∙ c.in-Refused.is)
+    (sym (ap verdict_in (by_totals a.xs.now a.curve a.tags.now a.slots.now (at a.starts.now l.k) (at a.ends.now l.k) _ _ _ here.0 c.look-until.ensures.answer c.strip_of.ensures)) ∙ sym c.verdict.ensures ∙ c.in-Err.is)
 
 pub loop-k-init : goal.loop-k-init
 loop-k-init c =

@@ -1,3 +1,4 @@
+use Rattle.std.specs.Prelude.{Ok}
 use Prim.Native.Nat.{ℕ, ◌+◌, ◌-◌, ◌<◌}
 use native.Mathlib.Omega.{arith}
 use mathlib.Core.Bool.{true}
@@ -8,7 +9,6 @@ use lib.ListN.{length, length-set}
 use Rattle.numbers.proofs.Ways.{never}
 use Rattle.numbers.proofs.Overlay.{overlay_none, overlay_more}
 use Rattle.section.specs.Section.{primitive}
-use Rattle.refusal.specs.declared.Verdict.TheVariants.{Accepted}
 use Rattle.table.specs.Table.{at}
 use Rattle.section.specs.declared.section.Section.{Section}
 use Rattle.record.specs.Number.{answer_in, or_zero}
@@ -24,7 +24,7 @@ use Rattle.query.proofs.strips.fill.Goals.{then-adjoining, else-adjoining, then-
 pub loop-k-preserved : goal.loop-k-preserved
 loop-k-preserved c =
     let fine : (k : ℕ) → let a = c.args in k < length a.starts.now →
-    verdict_in (strip_at a.xs.now a.curve a.tags.now a.slots.now (at a.starts.now k) (at a.ends.now k)) ≡ Accepted = λ k l. all_accepted _ _ c.requires.ends_value.0 k l in
+    verdict_in (strip_at a.xs.now a.curve a.tags.now a.slots.now (at a.starts.now k) (at a.ends.now k)) ≡ Ok tt = λ k l. all_accepted _ _ c.requires.ends_value.0 k l in
     let kept : let a = c.args in let l = c.loop-k in
     c.if-adjoining.known ≡ true → l.before ≡ formula_at primitive a.xs.now a.curve a.tags.now a.slots.now (at a.starts.now l.k) = λ h. let a = c.args in
     let l = c.loop-k in
@@ -51,18 +51,18 @@ loop-k-preserved c =
     (c.if-not-known.before ≡ formula_at primitive a.xs.now a.curve a.tags.now a.slots.now (at a.starts.now l.k)) × (c.if-not-known.place + 1 < length a.xs.now) = let l = c.loop-k in
     let inside : l.k < length c.args.starts.now = omega (arith, l.invariant.1, c.loop-k-test.true) in
     elim c.if-not-known.branch [
-      | then-not-known w ↦ (w.before-is ∙ w.or_zero-before.ensures ∙ ap or_zero w.number_near-from.ensures.answer ∙ (total l.k inside).0, omega (arith, w.place-is, w.number_near-from.ensures.place))
+      | then-not-known w ↦ (w.before-is ∙ w.total_near-from.ensures.number ∙ (total l.k inside).0, omega (arith, w.place-is, w.total_near-from.ensures.place))
       | else-not-known w ↦ (w.before-is ∙ kept w.if-not-known.false, omega (arith, w.place-is, l.invariant.2))
     ] in
     let a = c.args in
     let l = c.loop-k in
     let t = c.loop-k-test.true in
     let inside : l.k < length a.starts.now = omega (arith, l.invariant.1, t) in
-    let to = c.or_zero-total.ensures ∙ ap or_zero c.number_near-to.ensures.answer ∙ (total l.k inside).1 in
+    let to = c.total_near-to.ensures.number ∙ (total l.k inside).1 in
     let e : l.k ≡ l.k + 1 - 1 = omega arith in (
       omega (arith, t),
       l.invariant.1,
-      c.number_near-to.ensures.place,
+      c.total_near-to.ensures.place,
       simp length-set l.invariant.3,
       overlay_more 0 l.k _ _ _ _ _ l.invariant.4 (omega arith)
           (priced_so a.xs.now a.curve a.tags.now a.slots.now (at a.starts.now l.k) (at a.ends.now l.k) (fine l.k inside) _ _ here.0 to),

@@ -7,6 +7,6 @@ use Rattle.numbers.specs.Every.{all_below}
 use Rattle.sheets.specs.Cuts.{start_of, cut_fits}
 use Rattle.sheets.proofs.pieces.cuts_fit.Given as goal
 
-abbrev pub invariant-loop-j : goal.invariant-loop-j
-invariant-loop-j l =
-    (l.j ≤ l.j-end) × (l.j-end ≡ length l.cuts) × (l.last ≡ l.points - 1) × (l.before ≡ start_of l.cuts l.j) × (all_below l.j (cut_fits l.cuts l.points) ≡ true)
+abbrev pub invariant-loop-cut : goal.invariant-loop-cut
+invariant-loop-cut l =
+    (l.cut-index ≤ l.cut-index-end) × (l.cut-index-end ≡ length l.cuts) × (l.last ≡ l.points - 1) × (l.before ≡ start_of l.cuts l.cut-index) × (all_below l.cut-index (cut_fits l.cuts l.points) ≡ true)

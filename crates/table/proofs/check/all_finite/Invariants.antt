@@ -7,5 +7,5 @@ use Rattle.table.specs.Table.{at}
 use Rattle.table.proofs.Counts.{count_below}
 use Rattle.table.proofs.check.all_finite.Given as goal
 
-abbrev pub invariant-loop-i : goal.invariant-loop-i
-invariant-loop-i l = (l.i ≤ l.i-end) × (l.i-end ≡ length l.xs) × (l.finite ≡ count_below l.i (λ k. finite (at l.xs k)))
+abbrev pub invariant-loop-x : goal.invariant-loop-x
+invariant-loop-x l = (l.x-index ≤ l.x-index-end) × (l.x-index-end ≡ length l.xs) × (l.finite ≡ count_below l.x-index (λ k. finite (at l.xs k)))

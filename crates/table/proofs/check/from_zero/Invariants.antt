@@ -8,5 +8,5 @@ use Rattle.table.specs.Table.{at}
 use Rattle.table.proofs.Counts.{count_below}
 use Rattle.table.proofs.check.from_zero.Given as goal
 
-abbrev pub invariant-loop-i : goal.invariant-loop-i
-invariant-loop-i l = (l.i ≤ l.read) × (l.read ≡ length l.ys - 1) × (l.counted ≡ count_below l.i (λ k. le zero (at l.ys (k + 1))))
+abbrev pub invariant-loop-y : goal.invariant-loop-y
+invariant-loop-y l = (l.y-index ≤ length l.read) × (length l.read ≡ length l.ys - 1) × (l.counted ≡ count_below l.y-index (λ k. le zero (at l.ys (k + 1))))
