@@ -2,7 +2,7 @@
 use Prim.Native.Nat.{ℕ, ◌≤◌, ◌<◌}
 use mathlib.Core.Bool.{Bool, true, false, not, cond, ◌||◌}
 use mathlib.Core.Logic.{◌⊎◌, inl, inr}
-use mathlib.Core.Path.{◌≡◌, refl, sym, subst, ◌∙◌}
+use mathlib.Core.Path.{◌≡◌, refl, sym, ap, subst, ◌∙◌}
 use lib.Dec.{T, ltb}
 use borrow.Author.Tests.{ltb-true, ltb-false}
 
@@ -16,9 +16,12 @@ lt_or_le a b = by (ltb a b) (ltb-true a b) (ltb-false a b)
     by true l g = inl (l refl)
     by false l g = inr (g refl)
 
--- a call's answer, and what a test made of it
+-- a call's answer, and what a test made of it, as it stands or turned round
 pub returned : {a b t : Bool} → a ≡ b → a ≡ t → b ≡ t
 returned e h = sym e ∙ h
+
+pub asked_not : {a b t : Bool} → a ≡ b → not a ≡ t → not b ≡ t
+asked_not e h = sym (ap not e) ∙ h
 
 pub not_not : (b : Bool) → not b ≡ false → b ≡ true
 not_not true h = refl

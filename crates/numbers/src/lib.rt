@@ -61,8 +61,9 @@ pub fn is_ordinary_divisor(x: f64) -> bool
     LEAST_DIVISOR <= x
 }
 
-// x without its sign; -0.0 becomes +0.0. No branch is made for the sign, which the processor could not foresee.
-#[tactic(auto, using(crate::proofs::Signs::std_abs))]
+// x without its sign; -0.0 becomes +0.0. No branch is made for the sign, which the processor could not foresee. Here and below, lemmas are named that only
+// a body with a branch asks: an edit writes such a body, and is to be refused for what that answers.
+#[tactic(auto, using(crate::proofs::Signs::std_abs, crate::proofs::Signs::abs_zero, crate::proofs::Signs::abs_below))]
 pub fn abs(x: f64) -> f64
     ensures { result ≡ abs x }
 {
@@ -70,6 +71,7 @@ pub fn abs(x: f64) -> f64
 }
 
 // The number with these bits; every NaN's pattern is the NaN.
+#[tactic(auto, using(crate::proofs::Nan::read_as_nan, crate::proofs::Nan::read_as_number))]
 pub fn of_bits(bits: u64) -> f64
     ensures { result ≡ of_bits binary64 bits }
 {
@@ -77,6 +79,7 @@ pub fn of_bits(bits: u64) -> f64
 }
 
 // The bits of x; a NaN's are 7ff8000000000000, whatever pattern the machine holds.
+#[tactic(auto, using(crate::proofs::Nan::bits_of_nan))]
 pub fn to_bits(x: f64) -> u64
     ensures { result ≡ to_bits binary64 x }
 {

@@ -7,4 +7,5 @@ pub mod Numbers
 pub mod Cells
 pub mod InRange
 pub mod Tags
+pub mod Named
 pub mod FiniteAnswers

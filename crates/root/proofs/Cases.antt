@@ -59,6 +59,12 @@ above_zero (fin true m e) h k = never h refl
 above_zero (fin false nat.zero e) h k = never h (le-ltb (0 * 1 * down e) (0 * up e * 1) (omega arith))
 above_zero (fin false (suc m) e) h k = (m, e, refl)
 
+pub positive_number : (a : Float) → Positive a → T (not (is_nan a))
+unfolding is_nan
+positive_number nan p = never (ap is_nan p.2) refl
+positive_number (inf s) p = tt
+positive_number (fin s m e) p = tt
+
 -- what the code does with the bits of a positive finite number
 module _ (a : Float) (p : Positive a) (h : T (fits binary64 a)) where
   abbrev m : ℕ
