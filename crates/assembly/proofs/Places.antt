@@ -1,6 +1,4 @@
 -- The three sorts of node, by place, and how a pass that writes them in order comes to all of them.
-use Rattle.std.specs.Option.{unwrap_or}
-use Rattle.std.specs.Prelude.{None, Some}
 use Prim.Native.Nat.{ℕ, ◌+◌, ◌-◌, ◌≤◌, ◌<◌}
 use native.Mathlib.Omega.{arith}
 use native.Mathlib.Nat.{zero-add, le_refl}
@@ -30,11 +28,6 @@ beside_same n other f g h = by (eqb n 2) (eqb-false n 2)
 set_first : (old : List Float) (n : ℕ) (a : Float) (g : ℕ → Float) → set (overlay 1 n g old) 0 a ≡ overlay 1 n g (set old 0 a)
 unfolding overlay
 set_first old n a g = sym (overlay_comm 0 1 (λ k. a) 1 n g old (omega arith))
-
--- a given end, as the library takes it
-pub unwraps : (end : End) {a d e : Float} → a ≡ unwrap_or end d → d ≡ e → a ≡ or_given end e
-unwraps None p q = p ∙ q
-unwraps (Some g) p q = p
 
 module _ (x y : List Float) (frame : Frame) where
   pub node_first : node_at x y frame 0 ≡ first_node x y frame

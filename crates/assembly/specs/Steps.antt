@@ -1,4 +1,4 @@
--- Steps of the code, which only the contracts of private functions cite: an end node from the one beside it.
+-- Steps of the code, which only the contracts of private functions and the proofs cite: an end node from the one beside it.
 use Rattle.std.specs.Prelude.{ℕ, cond, eqb, Float}
 use Rattle.numbers.specs.Words.{zero}
 use Rattle.table.specs.Table.{outer, or_given, End}

@@ -1,7 +1,7 @@
 // The nodes of a table, written into a lent buffer.
 ghost use Rattle.std.specs.Prelude.{◌≡◌, ◌+◌, ◌-◌, ◌≤◌, ◌<◌, length};
 ghost use Rattle.numbers.specs.Overlay.{overlay};
-ghost use Rattle.table.specs.Table.{inner, seamed, outer, middle_at, node_at};
+ghost use Rattle.table.specs.Table.{inner, seamed, outer, or_given, middle_at, node_at};
 ghost use Rattle.assembly.specs.Steps.{beside};
 
 use table::ends::{Frame, Seam};
@@ -45,12 +45,19 @@ fn middle_at(xs: &[f64], ys: &[f64], frame: Frame, i: usize) -> f64
     )
 }
 
+// A node that is given for an end, and else this one.
+fn or_given(end: Option<f64>, f: f64) -> f64
+    ensures { result ≡ or_given end f }
+{
+    end.unwrap_or(f)
+}
+
 // The node at one end, if it is not given: from the average beside it and the next node f. Of two points each end has the other one next to it, as far as
 // that is given.
 fn end_node(points: usize, y: f64, positive: bool, other: Option<f64>, f: f64) -> f64
     ensures { result ≡ outer positive y (beside points other f) }
 {
-    let next = if points == 2 { other.unwrap_or(0.0) } else { f };
+    let next = if points == 2 { or_given(other, 0.0) } else { f };
     outer(positive, y, next)
 }
 
@@ -67,7 +74,7 @@ pub(crate) fn fill(xs: &[f64], ys: &[f64], frame: Frame, nodes: &mut [f64])
     let points = xs.len();
     let positive = frame.method.force_positive;
     let left = end_node(points, ys[1], positive, frame.right, nodes[1]);
-    nodes[0] = frame.left.unwrap_or(left);
+    nodes[0] = or_given(frame.left, left);
     let right = end_node(points, ys[last], positive, frame.left, nodes[count]);
-    nodes[last] = frame.right.unwrap_or(right);
+    nodes[last] = or_given(frame.right, right);
 }

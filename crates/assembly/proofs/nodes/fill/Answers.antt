@@ -5,8 +5,8 @@ use borrow.Author.Rules.{rules}
 use lib.ListN.{length, length-set}
 use Rattle.numbers.specs.Overlay.{overlay}
 use Rattle.numbers.proofs.Overlay.{overlay_none, overlay_more}
-use Rattle.table.specs.Table.{middle_at, node_at}
-use Rattle.assembly.proofs.Places.{node_middle, all_nodes, unwraps}
+use Rattle.table.specs.Table.{or_given, middle_at, node_at}
+use Rattle.assembly.proofs.Places.{node_middle, all_nodes}
 use Rattle.assembly.proofs.nodes.fill.Goals as goal
 
 pub loop-k-init : goal.loop-k-init
@@ -36,4 +36,4 @@ returns c =
     let i1 = i.1 in
     let i2 = i.2 in
     let e : l.k ≡ length a.xs.now - 2 = omega arith in
-    all_nodes a.xs.now a.ys.now a.frame a.nodes.now _ _ _ _ _ (omega arith) i.5 (omega (arith, i1)) (omega (arith, i1, i2)) (i.7 ∙ ap (λ n. overlay 1 n (λ j. node_at a.xs.now a.ys.now a.frame (1 + j)) a.nodes.now) (omega arith)) (unwraps a.frame.left c.unwrap_or.ensures c.end_node-left.ensures) (unwraps a.frame.right c.unwrap_or-2.ensures c.end_node-right.ensures)
+    all_nodes a.xs.now a.ys.now a.frame a.nodes.now _ _ _ _ _ (omega arith) i.5 (omega (arith, i1)) (omega (arith, i1, i2)) (i.7 ∙ ap (λ n. overlay 1 n (λ j. node_at a.xs.now a.ys.now a.frame (1 + j)) a.nodes.now) (omega arith)) (c.or_given.ensures ∙ ap (or_given a.frame.left) c.end_node-left.ensures) (c.or_given-2.ensures ∙ ap (or_given a.frame.right) c.end_node-right.ensures)
