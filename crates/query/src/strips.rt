@@ -81,7 +81,7 @@ struct Total {
 }
 
 // The total up to q of a curve that passed its tests, +0.0 where its record is not legal, sought from a place that it is likely to be near. The number is
-// taken out of the record's answer at once: what is handed on with its mark is copied in bytes, and a strip then takes a fifth longer.
+// taken out of the record's answer at once: what is handed on with its mark is copied in bytes, and a strip then takes a ninth longer.
 fn total_near(xs: &[f64], curve: Curve, tags: &[u16], slots: &[f64], near: usize, q: f64) -> Total
     requires { (first (curve_tests xs.now (length tags.now) (length slots.now)) ≡ Ok tt) × (near + 1 < length xs.now) }
     ensures number { result.number ≡ or_zero (answer_in (λ s. primitive s q) (covering xs.now curve tags.now slots.now q)) }
