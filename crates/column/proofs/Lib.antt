@@ -1,6 +1,7 @@
 pub mod Entries
 pub mod Filled
 pub mod FiniteStrip
+pub mod Flags
 pub mod JustBuilt
 pub mod Knots
 pub mod Left

@@ -32,7 +32,9 @@ fn short_verdict(
     Err(Refusal::BufferTooShort)
 }
 
-// Writes the column of a curve that was just built. A refusal is handed on, and the column then stays.
+// Writes the column of a curve that was just built. A refusal is handed on, and the column then stays. It is made part of both its callers, and so is what it
+// calls, down to the blocks: a function of its own takes the curve and hands it back through memory, in pieces that overlap, and a load of two of them waits.
+#[inline(always)]
 fn with_entries(
     xs: &[f64],
     ys: &[f64],

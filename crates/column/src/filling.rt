@@ -46,20 +46,42 @@ fn is_modest_seam(seam: Option<Seam>) -> bool
     }
 }
 
-// No test leaves this loop early: it then goes several periods at a time.
+// Whether the average and the length of period i are ordinary.
+fn is_modest_period(xs: &[f64], ys: &[f64], i: usize) -> bool
+    requires { (i + 1 < length xs.now) × (i + 1 < length ys.now) }
+    ensures { result ≡ period_modest xs.now ys.now i }
+{
+    let long = SHORTEST <= xs[i + 1] - xs[i];
+    is_modest_price(ys[i + 1]) & long
+}
+
+// No test leaves this loop early, and it goes two periods at a time. The flags are floats, 0.0 as long as every period was ordinary: with these, and not with
+// bools, the compiler makes each test of both periods at once.
+#[inline(always)]
 fn are_modest_periods(xs: &[f64], ys: &[f64], periods: usize) -> bool
     requires { (periods + 1 ≤ length xs.now) × (periods + 1 ≤ length ys.now) × (periods ≤ 4096) }
     ensures { result ≡ all_below periods (period_modest xs.now ys.now) }
 {
-    let mut modest = true;
-    for i in 0..periods {
-        let long = SHORTEST <= xs[i + 1] - xs[i];
-        modest = (is_modest_price(ys[i + 1]) & long) & modest;
+    let mut even = 0.0;
+    let mut odd = 0.0;
+    for k in 0..periods / 2 {
+        if !is_modest_period(xs, ys, 2 * k) {
+            even = 1.0;
+        }
+        if !is_modest_period(xs, ys, 2 * k + 1) {
+            odd = 1.0;
+        }
     }
-    modest
+    let modest = (even == 0.0) & (odd == 0.0);
+    let paired = 2 * (periods / 2);
+    if paired == periods {
+        return modest;
+    }
+    is_modest_period(xs, ys, paired) & modest
 }
 
 // Whether a table is of ordinary size.
+#[inline(always)]
 fn is_modest(xs: &[f64], ys: &[f64], method: ConvexMonotone, seam: Option<Seam>) -> bool
     requires { (2 ≤ length xs.now) × (length xs.now ≡ length ys.now) × (length xs.now ≤ 4096) }
     ensures { result ≡ modest_table xs.now ys.now method seam }
@@ -73,6 +95,7 @@ fn is_modest(xs: &[f64], ys: &[f64], method: ConvexMonotone, seam: Option<Seam>)
 }
 
 // Whether the entries can be read off the records: the table is of ordinary size, and the total after its last period, and so every total, is finite.
+#[inline(always)]
 fn is_readable(
     xs: &[f64],
     ys: &[f64],
@@ -192,6 +215,7 @@ fn fill_block(
 }
 
 // The entries of all sections, block after block. The last block comes first: its records were written last, and are nearest at hand.
+#[inline(always)]
 fn fill_sections(
     xs: &[f64],
     method: ConvexMonotone,
@@ -229,6 +253,7 @@ fn ask_sections(xs: &[f64], tags: &[u16], slots: &[f64], sections: usize, column
 }
 
 // Writes the column of a curve that was just built of this table. At the last knot the tail answers.
+#[inline(always)]
 pub(crate) fn fill(
     xs: &[f64],
     ys: &[f64],
